@@ -1,0 +1,1 @@
+// Lists as finite sets: definitions and laws alone. This crate has no code.

@@ -1,0 +1,1 @@
+// The table "Numbers" and the home function as definitions. This crate has no code yet.

@@ -1,0 +1,11 @@
+pub mod Store
+pub mod Step
+pub mod Run
+pub mod Search
+pub mod Calls
+pub mod Sound
+pub mod Groups
+pub mod Keeps
+pub mod Limits
+pub mod Demand2
+pub mod Demand3
