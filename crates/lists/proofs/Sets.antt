@@ -17,9 +17,12 @@ module _ {A : Type 0} where
   cut {x} (there {x = y} {xs = l} m) = add (cut m)
     where
       add : Cut x l → Cut x (y ∷ l)
-      add c = (y ∷ c .0, ap suc (c .1),
+      add c = (
+        y ∷ c .0,
+        ap suc (c .1),
         λ a i. ⊎-elim (λ p. inr (here p)) (λ j. ⊎-map (λ p. p) there (c .2 a j)) (split i),
-        λ a i. ⊎-elim here (λ j. there (c .3 a j)) (split i))
+        λ a i. ⊎-elim here (λ j. there (c .3 a j)) (split i),
+      )
 
   -- what a list holds beyond a part of it
   abbrev pub Rest : List A → List A → Type 0
@@ -30,10 +33,12 @@ module _ {A : Type 0} where
   rest ys (more {a = x} {l = xs} n d) f = add (cut (f x (here refl))) (λ zs g. rest zs d g)
     where
       add : Cut x ys → ((zs : List A) → ((a : A) → a ∈ xs → a ∈ zs) → Rest xs zs) → Rest (x ∷ xs) ys
-      add c ih = let r = ih (c .0) (λ a m. ⊎-elim (λ p. absurd (n (cast (sym p) m))) (λ j. j) (c .2 a (f a (there m)))) in
-        (r .0, omega (arith, c .1, r .1),
-          λ a m. ⊎-elim (λ p. inl (here p)) (λ j. ⊎-map there (λ i. i) (r .2 a j)) (c .2 a m),
-          λ a m. c .3 a (r .3 a m))
+      add c ih = let r = ih (c .0) (λ a m. ⊎-elim (λ p. absurd (n (cast (sym p) m))) (λ j. j) (c .2 a (f a (there m)))) in (
+        r .0,
+        omega (arith, c .1, r .1),
+        λ a m. ⊎-elim (λ p. inl (here p)) (λ j. ⊎-map there (λ i. i) (r .2 a j)) (c .2 a m),
+        λ a m. c .3 a (r .3 a m),
+      )
 
   pub pigeonhole : {xs : List A} (ys : List A) → NoDup xs → ((a : A) → a ∈ xs → a ∈ ys) → length xs ≤ length ys
   pigeonhole ys d f = omega (arith, (rest ys d f) .1)
@@ -138,7 +143,7 @@ module _ {A B : Type 0} (f : A → B) where
 
   pub of-map : {b : B} (l : List A) → b ∈ map f l → (a : A) × (a ∈ l) × (f a ≡ b)
   of-map l m = Memᴰ·of-map f l m
-  
+
   -- an injective image has no duplicates
   pub map-nodup : {l : List A} → ((a b : A) → a ∈ l → b ∈ l → f a ≡ f b → a ≡ b) → NoDup l → NoDup (map f l)
   map-nodup i nil = nil

@@ -27,7 +27,7 @@ module _ (h : Table → ℕ → ℕ) where
   pub of-cells : (G : List ℕ) {c : Sided} → c ∈ cellsOf h G → (k : ℕ) × (k ∈ G) × ((s : Table) × (homeCell h s k ≡ c))
   unfolding cellsOf
   of-cells G m = ⊎-elim (λ i. let t = of-map (homeCell h table-0) G i in (t .0, t .1, (table-0, t .2))) (λ i. let t = of-map (homeCell h table-1) G i in (t .0, t .1, (table-1, t .2)))
-    (append-cases (map (homeCell h table-0) G) (of-eachOnce sided? _ m))
+      (append-cases (map (homeCell h table-0) G) (of-eachOnce sided? _ m))
 
   -- W has a homeCell h of k; W has both
   abbrev pub Touch : List Sided → ℕ → Type 0
@@ -58,10 +58,14 @@ module _ (h : Table → ℕ → ℕ) where
       where
         add : (t : (k : ℕ) × (k ∈ R) × Touch W k) → Cut (t .0) R → ((R′ : List ℕ) (W′ : List Sided) → length R′ ≤ n → Closed R′ → ((c : Sided) → c ∈ W′ → P c) → Sat R′ W′) → Sat R W
         add (k, m, (s, i)) c ih =
-          let W₁ : List Sided = homeCell h (other s) k ∷ W in
-          let r : Sat (c .0) W₁ = ih (c .0) W₁ (omega (arith, c .1)) (λ j a b o. cl j a b (c .3 j o)) (λ d o. ⊎-elim (λ e. subst P (sym e) (cl k s (other s) m (f _ i))) (f d) (split o)) in
-          (r .0, omega (arith, r .1, c .1), λ d o. r .2 d (there o),
-            λ j o t. ⊎-elim (λ e. subst (Done (r .0)) (sym e) (both (λ b. homeCell h b k ∈ r .0) s (r .2 _ (there i)) (r .2 _ (here refl)))) (λ o′. r .3 j o′ t) (c .2 j o), r .4)
+            let W₁ : List Sided = homeCell h (other s) k ∷ W in
+            let r : Sat (c .0) W₁ = ih (c .0) W₁ (omega (arith, c .1)) (λ j a b o. cl j a b (c .3 j o)) (λ d o. ⊎-elim (λ e. subst P (sym e) (cl k s (other s) m (f _ i))) (f d) (split o)) in (
+              r .0,
+              omega (arith, r .1, c .1),
+              λ d o. r .2 d (there o),
+              λ j o t. ⊎-elim (λ e. subst (Done (r .0)) (sym e) (both (λ b. homeCell h b k ∈ r .0) s (r .2 _ (there i)) (r .2 _ (here refl)))) (λ o′. r .3 j o′ t) (c .2 j o),
+              r .4,
+            )
 
   module _ {ps : List ℕ} {x : ℕ} {G : List ℕ} (g : IsGroup h ps x G) where
     -- what one member hands to those that share a cell with it, all have
@@ -81,11 +85,11 @@ module _ (h : Table → ℕ → ℕ) where
       where
         go : (r : Rest S G) → Sat (λ c. Unit {0}) (r .0) W → (k : ℕ) × (k ∈ S) → length (cellsOf h G) < length G
         go r v (k, i) =
-          let close : (z : ℕ) → z ∈ G → Touch (v .0) z → Done (v .0) z = λ z m t. ⊎-elim (λ i s. v .2 _ (done z i s)) (λ i. v .3 z i t) (r .2 z m) in
-          let seed : Done (v .0) x = gather (Done (v .0)) (λ y z a b s e. close y a (s .0, cast (s .1) (e (s .0)))) ((g .linked k (sub k i)) .1) (λ s. v .2 _ (done k i s)) in
-          let all : (z : ℕ) → z ∈ G → Done (v .0) z = λ z m. spread (Done (v .0)) (λ y z a b s e. close z b (s .0, cast (sym (s .1)) (e (s .0)))) seed ((g .linked z m) .1) in
-          let fits : length (cellsOf h G) ≤ length (v .0) = pigeonhole (v .0) (eachOnce-nodup sided? _) (λ c m. let t = of-cells G m in cast (sym ((t .2) .1)) (all (t .0) (t .1) ((t .2) .0))) in
-          omega (arith, r .1, v .1)
+            let close : (z : ℕ) → z ∈ G → Touch (v .0) z → Done (v .0) z = λ z m t. ⊎-elim (λ i s. v .2 _ (done z i s)) (λ i. v .3 z i t) (r .2 z m) in
+            let seed : Done (v .0) x = gather (Done (v .0)) (λ y z a b s e. close y a (s .0, cast (s .1) (e (s .0)))) ((g .linked k (sub k i)) .1) (λ s. v .2 _ (done k i s)) in
+            let all : (z : ℕ) → z ∈ G → Done (v .0) z = λ z m. spread (Done (v .0)) (λ y z a b s e. close z b (s .0, cast (sym (s .1)) (e (s .0)))) seed ((g .linked z m) .1) in
+            let fits : length (cellsOf h G) ≤ length (v .0) = pigeonhole (v .0) (eachOnce-nodup sided? _) (λ c m. let t = of-cells G m in cast (sym ((t .2) .1)) (all (t .0) (t .1) ((t .2) .0))) in
+            omega (arith, r .1, v .1)
 
   -- each present key has a group
   pub groupOf : (ps : List ℕ) (x : ℕ) → x ∈ ps → (G : List ℕ) × IsGroup h ps x G
@@ -108,6 +112,11 @@ module _ (h : Table → ℕ → ℕ) where
           reach (link {z = z} l a b s) = v .3 z b (s .0, cast (sym (s .1)) (reach l (s .0)))
 
           pack : Sieve (Touch (v .0)) ps → (G : List ℕ) × IsGroup h ps x G
-          pack f = (eachOnce ℕ-discrete (f .0), record { once = eachOnce-nodup ℕ-discrete (f .0);
-            linked = λ z i. let p = f .1 z (of-eachOnce ℕ-discrete _ i) in (p .0, near z ((p .1) .0) (p .0) (v .4 _ ((p .1) .1)));
-            whole = λ z i l. to-eachOnce ℕ-discrete (f .0) (f .2 z i (table-1, reach l table-1)) })
+          pack f = (
+            eachOnce ℕ-discrete (f .0),
+            record {
+              once = eachOnce-nodup ℕ-discrete (f .0);
+              linked = λ z i. let p = f .1 z (of-eachOnce ℕ-discrete _ i) in (p .0, near z ((p .1) .0) (p .0) (v .4 _ ((p .1) .1)));
+              whole = λ z i l. to-eachOnce ℕ-discrete (f .0) (f .2 z i (table-1, reach l table-1));
+            },
+          )

@@ -1,3 +1,12 @@
 pub mod Groups
 pub mod Steps
 pub mod Runs
+pub mod Weights
+pub mod Places
+pub mod Lookup
+pub mod Parts
+pub mod Kept
+pub mod CallsKept
+pub mod Limits
+pub mod Open
+pub mod Demand2
