@@ -57,8 +57,8 @@ module _ (n : Numbers) (s : Store) (sound : SoundContents n s) (k : ℕ) (good :
       go : (o : Option ℕ) → Looked n s sound k good o → Lies o k s
       go (some v) t = unfold Looked in ⊎-elim
           (λ t. (search n k s, t .2, λ p at. sym (search-finds n s sound k good p at)))
-          (λ t. absurd (Option·none-ne-some (sym (t .0)))) t
-      go none t = unfold Looked in ⊎-elim (λ t. absurd (Option·none-ne-some (t .1))) (λ t p at. t .1 (subst (λ x. x ∈ present s) at (in-present s p (λ z. good-nonzero k good (sym at ∙ z))))) t
+          (λ t. absurd (Option·none-ne-some v (sym (t .0)))) t
+      go none t = unfold Looked in ⊎-elim (λ t. absurd (Option·none-ne-some (t .0) (t .1))) (λ t p at. t .1 (subst (λ x. x ∈ present s) at (in-present s p (λ z. good-nonzero k good (sym at ∙ z))))) t
 
 pub demand-2 : Demand2
 demand-2 past k good = let g = going past in record {
