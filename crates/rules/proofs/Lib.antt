@@ -10,3 +10,4 @@ pub mod CallsKept
 pub mod Limits
 pub mod Open
 pub mod Demand2
+pub mod Worked

@@ -1,11 +1,22 @@
 -- Document 01, groups: "Two present keys are in one group if they share a cell, directly or through other present keys." Over any two functions
 -- and any list of keys. Assumes nothing.
-use mathlib.Core.Path.{_≡_, ap}
+use mathlib.Core.Path.{_≡_, refl, sym, ap, subst}
 use mathlib.Core.List.{List, _++_, map}
 use Prim.Native.Nat.{ℕ}
 use native.Mathlib.Decide.{ℕ-discrete}
 use Rattle.lists.specs.Lists.{_∈_, NoDup, eachOnce}
-use Rattle.rules.specs.Store.{Table, table-0, table-1, table?}
+use Rattle.rules.specs.Store.{Table, table-0, table-1}
+
+-- the two tables told apart
+abbrev isTable0 : Table → Type 0
+isTable0 table-0 = Unit {0}
+isTable0 table-1 = ⊥
+
+unfoldable pub table? : Discrete Table
+table? table-0 table-0 = yes refl
+table? table-0 table-1 = no (λ e. subst isTable0 e tt)
+table? table-1 table-0 = no (λ e. subst isTable0 (sym e) tt)
+table? table-1 table-1 = yes refl
 
 -- a number with a table: a cell by its place in the table, or a key that heads for the table
 abbrev pub Sided : Type 0

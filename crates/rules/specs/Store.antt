@@ -9,7 +9,6 @@ use lib.ListN.{getD, set, replicate}
 -- "Table t (0 or 1)"
 pub data Table : Type 0 where
   table-0 table-1 : Table
-  deriving Discrete as table?
 
 -- table 1-b
 abbrev pub other : Table → Table
