@@ -1,3 +1,4 @@
 pub mod Ranges
 pub mod Home
 pub mod Ends
+pub mod ByHand

@@ -1,3 +1,4 @@
+pub mod ByHand
 pub mod Groups
 pub mod Steps
 pub mod Runs
@@ -10,4 +11,3 @@ pub mod CallsKept
 pub mod Limits
 pub mod Open
 pub mod Demand2
-pub mod Worked

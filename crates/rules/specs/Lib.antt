@@ -9,4 +9,4 @@ pub mod Keeps
 pub mod Limits
 pub mod Demand2
 pub mod Demand3
-pub mod Worked
+pub mod ByHand

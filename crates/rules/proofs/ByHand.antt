@@ -11,7 +11,7 @@ use Rattle.rules.specs.Search.{searchQueue, search, lookup}
 use Rattle.rules.specs.Calls.{find, define, change, remove, settle}
 use Rattle.rules.specs.Sound.{occupied, present}
 use Rattle.rules.specs.Groups.{table?, sided-path, sided?, cellsOf}
-use Rattle.rules.specs.Worked.{holdsOf, leftBy, hold, linesOfS, linesOfT, linesOfRule1, linesOfChange, StarredLines, FurtherLines}
+use Rattle.rules.specs.ByHand.{holdsOf, leftBy, hold, linesOfS, linesOfT, linesOfRule1, linesOfChange, StarredLines, FurtherLines}
 
 pub starred-lines : StarredLines
 unfolding home goodKey fresh isMarked stepAt stepFrom step run searchQueue search lookup find define change remove settle occupied present cellsOf sided? sided-path any? mem? keep eachOnce ℕ-discrete table? holdsOf leftBy hold linesOfS linesOfT
