@@ -11,3 +11,8 @@ pub mod CallsKept
 pub mod Limits
 pub mod Open
 pub mod Demand2
+pub mod View
+pub mod Walk
+pub mod Settling
+pub mod Demand3
+pub mod Claims

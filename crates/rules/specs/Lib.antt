@@ -10,3 +10,4 @@ pub mod Limits
 pub mod Demand2
 pub mod Demand3
 pub mod ByHand
+pub mod Claims
