@@ -2,3 +2,4 @@ pub mod Ranges
 pub mod Home
 pub mod Ends
 pub mod ByHand
+pub mod Product

@@ -1,4 +1,5 @@
 pub mod Ranges
 pub mod Home
+pub mod Homes
 pub mod Ends
 pub mod ByHand

@@ -1,1 +1,50 @@
-// The table "Numbers" and the home function as definitions. This crate has no code yet.
+// The home functions of a store, and what a good key is. Inner functions: their callers show what they require.
+ghost use mathlib.Core.Path.{_≡_};
+ghost use Prim.Native.Nat.{_<_};
+ghost use Rattle.numbers.specs.Home.{home};
+ghost use Rattle.numbers.specs.Homes.{home0, home1};
+ghost use Rattle.numbers.specs.Ranges.{goodKey};
+
+// The numbers of the two home functions, and the cells of a table.
+pub struct Functions {
+    pub r: u32,
+    pub a0: u32,
+    pub b0: u32,
+    pub a1: u32,
+    pub b1: u32,
+}
+
+// The home of x in a table of r cells: a 64-bit product, and a 32-bit remainder by r, since the value is below 2^31.
+fn home_of(a: u32, b: u32, r: u32, x: u32) -> u32
+    requires { ⌜ 0 < r ⌝ }
+    ensures { λ k. ⌜ k ≡ home a b r x ⌝ }
+{
+    let sum = (a as u64) * (x as u64) + (b as u64);
+    let mixed = (sum % 2147483647) as u32;
+    mixed % r
+}
+
+impl Functions {
+    // The home of x in table 0.
+    pub fn in_table0(self, x: u32) -> u32
+        requires { ⌜ 0 < self .r ⌝ }
+        ensures { λ k. ⌜ k ≡ home0 self x ⌝ }
+    {
+        home_of(self.a0, self.b0, self.r, x)
+    }
+
+    // The home of x in table 1.
+    pub fn in_table1(self, x: u32) -> u32
+        requires { ⌜ 0 < self .r ⌝ }
+        ensures { λ k. ⌜ k ≡ home1 self x ⌝ }
+    {
+        home_of(self.a1, self.b1, self.r, x)
+    }
+}
+
+// Whether x is a key: 1 to 2,147,483,647.
+pub fn is_key(x: u32) -> bool
+    ensures { λ k. ⌜ k ≡ goodKey x ⌝ }
+{
+    (1 <= x) & (x <= 2147483647)
+}

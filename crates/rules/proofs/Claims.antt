@@ -6,6 +6,7 @@ use Rattle.rules.proofs.CallsKept.{call-keeps-sound, call-changes-looku
 use Rattle.rules.proofs.Limits.{calls-are-limited, refusals-change-nothing}
 use Rattle.rules.proofs.Demand2.{demand-2}
 use Rattle.rules.proofs.Demand3.{demand-3, demand-3-converse}
+use Rattle.rules.proofs.Check.{check-is-exact}
 use Rattle.rules.proofs.ByHand.{starred-lines, further-lines}
 
 pub claims : Claims
@@ -17,6 +18,7 @@ claims = record {
   call-changes-lookup = call-changes-lookup;
   calls-are-limited = calls-are-limited;
   refusals-change-nothing = refusals-change-nothing;
+  check-is-exact = check-is-exact;
   demand-2 = demand-2;
   demand-3 = demand-3;
   demand-3-converse = demand-3-converse;

@@ -15,4 +15,6 @@ pub mod View
 pub mod Walk
 pub mod Settling
 pub mod Demand3
+pub mod CheckTests
+pub mod Check
 pub mod Claims

@@ -75,7 +75,7 @@ same-pair y t p e =
     let b = and-eq-true-iff (eqb (p .key) y) (sameTable (meant (p .side)) t) .0 e in
     sided-path (eqb-true (p .key) y (b .0)) (same-table (meant (p .side)) t (b .1))
 
-found-marked : (y : ℕ) (t : Table) (ps : List Pair) → isMarked y t ps ≡ true → (y, t) ∈ map marking ps
+pub found-marked : (y : ℕ) (t : Table) (ps : List Pair) → isMarked y t ps ≡ true → (y, t) ∈ map marking ps
 unfolding isMarked
 found-marked y t [] e = absurd (true≢false (sym e))
 found-marked y t (p ∷ ps) e =

@@ -3,6 +3,7 @@ use Rattle.rules.specs.Keeps.{OpenIsSound, StepKeepsSound, CallKeepsSoun
 use Rattle.rules.specs.Limits.{CallsAreLimited, RefusalsChangeNothing}
 use Rattle.rules.specs.Demand2.{Demand2}
 use Rattle.rules.specs.Demand3.{Demand3, Demand3Converse}
+use Rattle.rules.specs.Check.{CheckIsExact}
 use Rattle.rules.specs.ByHand.{StarredLines, FurtherLines}
 
 pub record Claims : Type 0 where
@@ -13,6 +14,7 @@ pub record Claims : Type 0 where
   pub call-changes-lookup : CallChangesLookup
   pub calls-are-limited : CallsAreLimited
   pub refusals-change-nothing : RefusalsChangeNothing
+  pub check-is-exact : CheckIsExact
   pub demand-2 : Demand2
   pub demand-3 : Demand3
   pub demand-3-converse : Demand3Converse

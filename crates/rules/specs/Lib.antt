@@ -11,3 +11,4 @@ pub mod Demand2
 pub mod Demand3
 pub mod ByHand
 pub mod Claims
+pub mod Check

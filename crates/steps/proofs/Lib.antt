@@ -1,0 +1,3 @@
+pub mod InTable
+pub mod InStore
+pub mod Going

@@ -1,0 +1,117 @@
+-- What the step functions ask of the words, and what they leave. Assumes nothing.
+use Prim.Native.Nat.{ℕ, _+_, _-_, _*_, _≤_, _<_}
+use mathlib.Core.Path.{_≡_}
+use mathlib.Core.List.{List, [], _∷_, _++_}
+use lib.ListN.{length, getD, drop}
+use lib.Seq.{sets}
+use Rattle.rules.specs.Store.{Table, table-0, table-1, Cell, Entry, Pair, Tables, Store, store, Numbers}
+use Rattle.rules.specs.Step.{Stepped}
+use Rattle.rules.specs.Run.{Ran}
+use Rattle.numbers.specs.declared.Functions.{Functions}
+use Rattle.numbers.specs.Homes.{home0, home1}
+use Rattle.layout.specs.Forms.{cellForm, entryForm, pairForm, readMany, packed}
+use Rattle.steps.specs.declared.Turn.{Turn}
+use Rattle.steps.specs.declared.Ended.{Ended}
+
+abbrev pub cellsIn : ℕ → List ℕ → List Cell
+cellsIn r t = readMany cellForm r t
+
+abbrev pub entriesIn : ℕ → List ℕ → List Entry
+entriesIn ql q = readMany entryForm ql q
+
+abbrev pub pairsIn : ℕ → List ℕ → List Pair
+pairsIn dl d = readMany pairForm dl d
+
+abbrev pub entry : ℕ → ℕ → ℕ → Entry
+entry k v s = record { key = k; value = v; side = s }
+
+abbrev pub pair : ℕ → ℕ → Pair
+pair k s = record { key = k; side = s }
+
+abbrev pub turn : ℕ → ℕ → ℕ → Turn
+turn kind ql dl = record { kind = kind; «queue_len» = ql; «detector_len» = dl }
+
+-- queue and detector hold their entries and pairs, and zeros behind them
+pub record Ready (ql dl : ℕ) (q d : List ℕ) : Type 0 where
+  pub queue-in : 3 * ql ≤ length q
+  pub queue-small : length q ≤ 192
+  pub detector-in : 2 * dl ≤ length d
+  pub detector-small : length d ≤ 256
+  pub queue : q ≡ packed entryForm (length q) (entriesIn ql q)
+  pub detector : d ≡ packed pairForm (length d) (pairsIn dl d)
+
+-- kind 1
+pub record Landed (i y v ql dl : ℕ) (t q d t′ q′ d′ : List ℕ) (a : Turn) : Type 0 where
+  pub table : t′ ≡ sets t (2 * i) (y ∷ v ∷ [])
+  pub queue : q′ ≡ packed entryForm (length q) (drop 1 (entriesIn ql q))
+  pub detector : d′ ≡ packed pairForm (length d) []
+  pub answer : a ≡ turn 1 (ql - 1) 0
+
+-- kind 2
+pub record Aside (y v b ql dl : ℕ) (q d q′ d′ : List ℕ) (a : Turn) : Type 0 where
+  pub queue : q′ ≡ packed entryForm (length q) (drop 1 (entriesIn ql q) ++ entry y v b ∷ [])
+  pub detector : d′ ≡ packed pairForm (length d) []
+  pub answer : a ≡ turn 2 ql 0
+
+-- kind 3
+pub record Swapped (i y v b ql dl : ℕ) (t q d t′ q′ d′ : List ℕ) (a : Turn) : Type 0 where
+  pub table : t′ ≡ sets t (2 * i) (y ∷ v ∷ [])
+  pub queue : q′ ≡ packed entryForm (length q) (entry (getD t (2 * i) 0) (getD t (2 * i + 1) 0) (1 - b) ∷ drop 1 (entriesIn ql q))
+  pub detector : d′ ≡ packed pairForm (length d) (pairsIn dl d ++ pair y b ∷ [])
+  pub answer : a ≡ turn 3 ql (dl + 1)
+
+-- one table's cells beside the other's
+abbrev pub withTable : Table → List Cell → List Cell → Tables
+withTable table-0 cs o = record { table0 = cs; table1 = o }
+withTable table-1 cs o = record { table0 = o; table1 = cs }
+
+-- the store that one table's words hold, the other table being o
+abbrev pub tablesWith : ℕ → ℕ → ℕ → Table → List Cell → List ℕ → List ℕ → List ℕ → Store
+tablesWith r ql dl t o tw q d = store (withTable t (cellsIn r tw) o) (entriesIn ql q) (pairsIn dl d)
+
+-- the words after a step in one table are those of what the rules leave
+pub record After (r : ℕ) (s : Stepped) (t : Table) (o : List Cell) (nq nd : ℕ) (tw q d : List ℕ) (a : Turn) : Type 0 where
+  pub tables : withTable t (cellsIn r tw) o ≡ s .store .tables
+  pub queue : q ≡ packed entryForm nq (s .store .waiting)
+  pub detector : d ≡ packed pairForm nd (s .store .marked)
+  pub answer : a ≡ turn (s .kind) (length (s .store .waiting)) (length (s .store .marked))
+
+-- both tables have r cells
+pub record TablesReady (r : ℕ) (t0 t1 : List ℕ) : Type 0 where
+  pub some : 0 < r
+  pub small : r ≤ 32768
+  pub first : length t0 ≡ 2 * r
+  pub second : length t1 ≡ 2 * r
+
+-- numbers with these functions and this detector room
+abbrev pub homesOf : Functions → Table → ℕ → ℕ
+homesOf f table-0 x = home0 f x
+homesOf f table-1 x = home1 f x
+
+pub record StepsWith (n : Numbers) (f : Functions) (room : ℕ) : Type 0 where
+  pub detector-room : n .D ≡ room
+  pub homes : n .home ≡ homesOf f
+
+-- the store that words hold
+abbrev pub storeIn : ℕ → ℕ → ℕ → List ℕ → List ℕ → List ℕ → List ℕ → Store
+storeIn r ql dl t0 t1 q d = store (record { table0 = cellsIn r t0; table1 = cellsIn r t1 }) (entriesIn ql q) (pairsIn dl d)
+
+-- the words hold this store, with lengths ql and dl
+pub record Holds (r nq nd : ℕ) (s : Store) (t0 t1 q d : List ℕ) (ql dl : ℕ) : Type 0 where
+  pub first : cellsIn r t0 ≡ s .tables .table0
+  pub second : cellsIn r t1 ≡ s .tables .table1
+  pub queue : q ≡ packed entryForm nq (s .waiting)
+  pub detector : d ≡ packed pairForm nd (s .marked)
+  pub queue-len : ql ≡ length (s .waiting)
+  pub detector-len : dl ≡ length (s .marked)
+
+-- the words after a step
+pub record Follows (r nq nd : ℕ) (s : Stepped) (t0 t1 q d : List ℕ) (a : Turn) : Type 0 where
+  pub words : Holds r nq nd (s .store) t0 t1 q d (a .«queue_len») (a .«detector_len»)
+  pub kind : a .kind ≡ s .kind
+
+-- the words after a run
+pub record Runs (r nq nd : ℕ) (e : Ran) (t0 t1 q d : List ℕ) (a : Ended) : Type 0 where
+  pub words : Holds r nq nd (e .store) t0 t1 q d (a .«queue_len») (a .«detector_len»)
+  pub steps : a .steps ≡ e .steps
+  pub moves : a .moves ≡ e .moves
