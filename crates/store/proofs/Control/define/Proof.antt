@@ -1,0 +1,66 @@
+-- `store::Control::define` meets its contract: refusals 1 to 3, else what `define_in` gives. Assumes nothing.
+use mathlib.Core.Path.{sym, _∙_, ap}
+use lib.ListN.{length}
+use Rattle.store.specs.Memory.{lent}
+use Rattle.store.specs.Refusals.{outcome}
+use Rattle.store.specs.Calls.{defined}
+use Rattle.store.proofs.Faults.{no-fault, goes-on, keeps-all}
+use borrow.Author.Needs.{needs}
+use Rattle.store.proofs.Control.define.Statement.{statement}
+use Rattle.store.proofs.Control.define.Tie as tie
+use Rattle.store.proofs.Control.define.Reads as reads
+use Rattle.store.proofs.Control.define.Lts as lts
+use Rattle.store.proofs.Control.define_in.Reads as define-in-reads
+use Rattle.store.proofs.Control.fault.Reads as fault-reads
+use Rattle.store.proofs.Control.reply.Reads as reply-reads
+
+fault-requires : tie.Need-fault-requires
+fault-requires c κs = search needs
+
+reply-requires : tie.Need-reply-requires
+reply-requires c κs = search needs
+
+returns : tie.Need-returns
+unfolding defined
+returns c =
+    let a = c .before .before .before .before .before .before .before .args in
+    let m = lent (a .t0 .now) (a .t1 .now) (a .queue .now) (a .detector .now) in
+    ap (outcome m) (c .reply .ensures) ∙ keeps-all (a .self) m _ _ (c .before .before .fault .ensures) (c .before .if1 .taken)
+
+define-in-requires : tie.Need-define-in-requires
+define-in-requires c κs =
+    let a = c .before .before .before .before .before .before .before .before .before .before .args in
+    no-fault (a .self) (length (a .t0 .now)) (length (a .t1 .now)) (length (a .queue .now)) (length (a .detector .now)) (sym (c .before .before .before .before .before .fault .ensures) ∙ c .before .before .before .before .if1 .left)
+
+same-length : tie.Need-same-length
+same-length c = search needs
+
+same-length-2 : tie.Need-same-length-2
+same-length-2 c = search needs
+
+same-length-3 : tie.Need-same-length-3
+same-length-3 c = search needs
+
+same-length-4 : tie.Need-same-length-4
+same-length-4 c = search needs
+
+returns-2 : tie.Need-returns-2
+unfolding defined
+returns-2 c =
+    let a = c .before .before .before .before .before .before .before .before .before .before .before .before .before .before .before .before .before .before .before .args in
+    let m = lent (a .t0 .now) (a .t1 .now) (a .queue .now) (a .detector .now) in
+    c .before .before .before .before .before .before .before .before .define-in .ensures ∙ sym (goes-on (a .self) m _ (sym (c .before .before .before .before .before .before .before .before .before .before .before .before .before .before .fault .ensures) ∙ c .before .before .before .before .before .before .before .before .before .before .before .before .before .if1 .left))
+
+pub define-spec : {M : Type 1} → statement M
+define-spec =
+    tie.close
+    (tie.spec
+    fault-requires
+    reply-requires
+    returns
+    define-in-requires
+    same-length
+    same-length-2
+    same-length-3
+    same-length-4
+    returns-2)

@@ -1,0 +1,141 @@
+-- `store::Control::define_in` meets its contract: what find answers picks the case; the words that `tidy` leaves hold the same store, and `join` goes on
+-- from there. Assumes nothing.
+use borrow.Author.Needs.{needs}
+use Rattle.store.proofs.Defining.{tidied-fit, tidied-ready, refuses-held, refuses-bad, refuses-full, defines}
+use Rattle.store.proofs.Control.define_in.Statement.{statement}
+use Rattle.store.proofs.Control.define_in.Tie as tie
+
+-- from what find answers to the function's entry, and from the words tidied to the last test and to what find answers
+abbrev entry : tie.After-find-in → tie.Start
+entry c = c .before .before .before .before .before .before .before .before
+
+abbrev roomy : tie.After-tidy → tie.Else3
+roomy c = c .before .before .before
+
+abbrev found : tie.Else3 → tie.After-find-in
+found c = c .before .before .before .before .before .before
+
+find-in-requires : tie.Need-find-in-requires
+find-in-requires c κs = search needs
+
+reply-requires : tie.Need-reply-requires
+reply-requires c κs = search needs
+
+same-length : tie.Need-same-length
+same-length c = search needs
+
+same-length-2 : tie.Need-same-length-2
+same-length-2 c = search needs
+
+same-length-3 : tie.Need-same-length-3
+same-length-3 c = search needs
+
+returns : tie.Need-returns
+returns c =
+    let f = c .before .before .before in
+    let a = entry f .args in
+    refuses-held (a .self) (a .x) (a .v) (a .t0 .now) (a .t1 .now) (a .queue .now) (a .detector .now) _ (f .find-in .ensures) (c .before .if1 .taken) (c .reply .ensures)
+
+reply-requires-2 : tie.Need-reply-requires-2
+reply-requires-2 c κs = search needs
+
+same-length-4 : tie.Need-same-length-4
+same-length-4 c = search needs
+
+same-length-5 : tie.Need-same-length-5
+same-length-5 c = search needs
+
+same-length-6 : tie.Need-same-length-6
+same-length-6 c = search needs
+
+returns-2 : tie.Need-returns-2
+returns-2 c =
+    let f = c .before .before .before .before .before in
+    let a = entry f .args in
+    refuses-bad (a .self) (a .x) (a .v) (a .t0 .now) (a .t1 .now) (a .queue .now) (a .detector .now) _ (f .find-in .ensures) (c .before .if2 .taken) (c .reply2 .ensures)
+
+reply-requires-3 : tie.Need-reply-requires-3
+reply-requires-3 c κs = search needs
+
+same-length-7 : tie.Need-same-length-7
+same-length-7 c = search needs
+
+same-length-8 : tie.Need-same-length-8
+same-length-8 c = search needs
+
+same-length-9 : tie.Need-same-length-9
+same-length-9 c = search needs
+
+returns-3 : tie.Need-returns-3
+returns-3 c =
+    let f = c .before .before .before .before .before .before .before in
+    let a = entry f .args in
+    refuses-full (a .self) (a .x) (a .v) (a .t0 .now) (a .t1 .now) (a .queue .now) (a .detector .now) _ (f .find-in .ensures) (c .before .before .before .before .before .if1 .left) (c .before .before .before .if2 .left)
+    (c .before .if3 .taken) (c .reply3 .ensures)
+
+tidy-requires : tie.Need-tidy-requires
+tidy-requires c κs =
+    entry (found (c .before .before)) .pre .rooms
+
+join-requires : tie.Need-join-requires
+join-requires c κs =
+    let y = c .before .before .before .before .before .before .before .before in
+    let s = entry (found (roomy y)) in
+    let a = s .args in (
+      roomy y .if3 .left,
+      (
+        tidied-fit (a .self) (a .t0 .now) (a .t1 .now) (a .queue .now) (a .detector .now) _ _ (s .pre) (y .tidy .ensures),
+        tidied-ready (a .self) (a .t0 .now) (a .t1 .now) (a .queue .now) (a .detector .now) _ _ (s .pre) (y .tidy .ensures),
+      ),
+    )
+
+same-length-10 : tie.Need-same-length-10
+same-length-10 c = search needs
+
+same-length-11 : tie.Need-same-length-11
+same-length-11 c = search needs
+
+same-length-12 : tie.Need-same-length-12
+same-length-12 c = search needs
+
+same-length-13 : tie.Need-same-length-13
+same-length-13 c = search needs
+
+returns-4 : tie.Need-returns-4
+returns-4 c =
+    let j = c .before .before .before .before .before .before .before .before in
+    let y = j .before .before .before .before .before .before .before .before .before in
+    let e = roomy y in
+    let f = found e in
+    let s = entry f in
+    let a = s .args in
+    defines (a .self) (a .x) (a .v) (a .t0 .now) (a .t1 .now) (a .queue .now) (a .detector .now) _ (f .find-in .ensures) (e .before .before .before .before .if1 .left) (e .before .before .if2 .left)
+    (e .if3 .left) (s .pre) (y .tidy .ensures) (j .join .ensures)
+
+pub define-in-spec : {M : Type 1} → statement M
+define-in-spec =
+    tie.close
+    (tie.spec
+    find-in-requires
+    reply-requires
+    same-length
+    same-length-2
+    same-length-3
+    returns
+    reply-requires-2
+    same-length-4
+    same-length-5
+    same-length-6
+    returns-2
+    reply-requires-3
+    same-length-7
+    same-length-8
+    same-length-9
+    returns-3
+    tidy-requires
+    join-requires
+    same-length-10
+    same-length-11
+    same-length-12
+    same-length-13
+    returns-4)

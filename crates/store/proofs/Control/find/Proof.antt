@@ -1,0 +1,46 @@
+-- `store::Control::find` meets its contract: refusals 1 to 3, else what `find_in` gives. Assumes nothing.
+use mathlib.Core.Path.{sym, _∙_, ap}
+use lib.ListN.{length}
+use Rattle.store.specs.Memory.{lent}
+use Rattle.store.specs.Refusals.{outcome}
+use Rattle.store.specs.Calls.{found}
+use Rattle.store.proofs.Faults.{no-fault, goes-on, keeps-all}
+use Rattle.store.proofs.Lying.{tables-ready, queue-bounds}
+use borrow.Author.Needs.{needs}
+use Rattle.store.proofs.Control.find.Statement.{statement}
+use Rattle.store.proofs.Control.find.Tie as tie
+use Rattle.store.proofs.Control.find.Reads as reads
+use Rattle.store.proofs.Control.find.Lts as lts
+use Rattle.store.proofs.Control.fault.Reads as fault-reads
+use Rattle.store.proofs.Control.find_in.Reads as find-in-reads
+use Rattle.store.proofs.Control.reply.Reads as reply-reads
+
+fault-requires : tie.Need-fault-requires
+fault-requires c κs = search needs
+
+reply-requires : tie.Need-reply-requires
+reply-requires c κs = search needs
+
+returns : tie.Need-returns
+unfolding found
+returns c =
+    let a = c .before .before .before .before .before .before .before .args in
+    let m = lent (a .t0 .now) (a .t1 .now) (a .queue .now) (a .detector .now) in
+    ap (outcome m) (c .reply .ensures) ∙ keeps-all (a .self) m _ _ (c .before .before .fault .ensures) (c .before .if1 .taken)
+
+find-in-requires : tie.Need-find-in-requires
+find-in-requires c κs =
+    let a = c .before .before .before .before .before .before .args in
+    let m = lent (a .t0 .now) (a .t1 .now) (a .queue .now) (a .detector .now) in
+    let fit = no-fault (a .self) (length (a .t0 .now)) (length (a .t1 .now)) (length (a .queue .now)) (length (a .detector .now)) (sym (c .before .fault .ensures) ∙ c .if1 .left) in
+    (tables-ready (a .self) m fit, queue-bounds (a .self) m fit)
+
+returns-2 : tie.Need-returns-2
+unfolding found
+returns-2 c =
+    let a = c .before .before .before .before .before .before .before .args in
+    let m = lent (a .t0 .now) (a .t1 .now) (a .queue .now) (a .detector .now) in
+    ap (outcome m) (c .find-in .ensures (a .detector .now)) ∙ sym (goes-on (a .self) m _ (sym (c .before .before .fault .ensures) ∙ c .before .if1 .left))
+
+pub find-spec : {M : Type 1} → statement M
+find-spec = tie.close (tie.spec fault-requires reply-requires returns find-in-requires returns-2)

@@ -1,0 +1,179 @@
+-- Define: tidied words hold the same store, words with one entry more hold the joined one, and the cases of define by what find answers. Assumes nothing.
+use Prim.Native.Nat.{ℕ, _+_, _*_, _≤_, _<_}
+use mathlib.Core.Path.{_≡_, refl, sym, ap, _∙_}
+use mathlib.Core.Logic.{_≢_}
+use mathlib.Core.Bool.{Bool, true, false, not}
+use mathlib.Core.List.{List, [], _∷_}
+use mathlib.Core.Option.{Option, none, some}
+use native.Mathlib.Omega.{arith}
+use borrow.Author.Tests.{le-leb, lt-leb}
+use lib.Dec.{leb}
+use lib.ListN.{length, length-append}
+use lib.Seq.{sets}
+use Rattle.numbers.specs.Ranges.{goodKey}
+use Rattle.rules.specs.Store.{Store, Numbers}
+use Rattle.rules.specs.Run.{run}
+use Rattle.rules.specs.Search.{lookup}
+use Rattle.rules.specs.Calls.{answer, Outcome as RulesOutcome, refused, acceptedRun, refuseIf, refuse5, orRefuse7, joined, find, define}
+use Rattle.layout.specs.Forms.{entryForm, pairForm}
+use Rattle.layout.proofs.Forms.{entry-lawful, length-readMany}
+use Rattle.layout.proofs.Ready.{one-behind}
+use Rattle.steps.specs.Shape.{Ready, Holds, entriesIn, entry}
+use Rattle.steps.proofs.Going.{holds-store, holds-queue, holds-detector, holds-ready}
+use Rattle.store.specs.declared.Control.{Control}
+use Rattle.store.specs.declared.Answer.{Answer}
+use Rattle.store.specs.Memory.{Lent, lent, numbersOf, storeOf, wordsOf, recordOf, withLens}
+use Rattle.store.specs.Refusals.{Outcome, outcome, answered}
+use Rattle.store.specs.Calls.{leaves}
+use Rattle.store.specs.Inner.{FitIn, Tidied, ranOutcome}
+
+-- words that hold a store, of the lengths that fit a record: they fit it, are ready, and stand for the store
+module _ (c : Control) (ql : ℕ) (t0 t1 q d q′ d′ : List ℕ) (s : Store) (fit : FitIn c (lent t0 t1 q d)) (few : ql ≤ c .«queue_room»)
+    (h : Holds (c .r) (length q) (length d) s t0 t1 q′ d′ ql (c .«detector_len»)) where
+  pub held-fit : FitIn (withLens c ql (c .«detector_len»)) (lent t0 t1 q′ d′)
+  held-fit =
+      let w = fit .rooms in
+      let lq : length q′ ≡ length q = holds-queue h (omega arith) in
+      let ld : length d′ ≡ length d = holds-detector h (omega arith) in
+      record {
+        some = fit .some;
+        small = fit .small;
+        limit-small = fit .limit-small;
+        first = fit .first;
+        second = fit .second;
+        rooms = record {
+          queue-small = w .queue-small;
+          detector-small = w .detector-small;
+          queue = lq ∙ w .queue;
+          detector = ld ∙ w .detector;
+          queue-in = few;
+          detector-in = w .detector-in;
+        };
+      }
+
+  pub held-ready : Ready ql (c .«detector_len») q′ d′
+  held-ready = let w = fit .rooms in holds-ready h (omega arith) (omega arith) (omega arith) (omega arith)
+
+module _ (c : Control) (t0 t1 q d q′ d′ : List ℕ) (fit : FitIn c (lent t0 t1 q d)) (t : Tidied c q d q′ d′) where
+  tidied-holds : Holds (c .r) (length q) (length d) (storeOf c (lent t0 t1 q d)) t0 t1 q′ d′ (c .«queue_len») (c .«detector_len»)
+  tidied-holds = record {
+    first = refl;
+    second = refl;
+    queue = t .queue;
+    detector = t .detector;
+    queue-len = sym (length-readMany entryForm (c .«queue_len») q);
+    detector-len = sym (length-readMany pairForm (c .«detector_len») d);
+  }
+
+  pub tidied-fit : FitIn c (lent t0 t1 q′ d′)
+  tidied-fit = held-fit c (c .«queue_len») t0 t1 q d q′ d′ (storeOf c (lent t0 t1 q d)) fit (fit .rooms .queue-in) tidied-holds
+
+  pub tidied-ready : Ready (c .«queue_len») (c .«detector_len») q′ d′
+  tidied-ready = held-ready c (c .«queue_len») t0 t1 q d q′ d′ (storeOf c (lent t0 t1 q d)) fit (fit .rooms .queue-in) tidied-holds
+
+  pub tidied-store : storeOf c (lent t0 t1 q′ d′) ≡ storeOf c (lent t0 t1 q d)
+  tidied-store = holds-store tidied-holds
+
+-- the entry (x, v, 0) put behind those that wait
+module _ (c : Control) (x v : ℕ) (t0 t1 q d q′ : List ℕ) (more : c .«queue_len» < c .«queue_room») (fit : FitIn c (lent t0 t1 q d))
+    (ready : Ready (c .«queue_len») (c .«detector_len») q d) (put : q′ ≡ sets q (3 * c .«queue_len») (x ∷ v ∷ 0 ∷ [])) where
+  abbrev longer : Control
+  longer = withLens c (c .«queue_len» + 1) (c .«detector_len»)
+
+  joined-holds : Holds (c .r) (length q) (length d) (joined x v (storeOf c (lent t0 t1 q d))) t0 t1 q′ d (c .«queue_len» + 1) (c .«detector_len»)
+  joined-holds =
+      let w = fit .rooms in record {
+        first = refl;
+        second = refl;
+        queue = put ∙ one-behind entryForm entry-lawful (c .«queue_len») q (ready .queue) (ready .queue-in) (omega arith) (entry x v 0);
+        detector = ready .detector;
+        queue-len = omega (arith, length-append (entriesIn (c .«queue_len») q) (entry x v 0 ∷ []), length-readMany entryForm (c .«queue_len») q);
+        detector-len = sym (length-readMany pairForm (c .«detector_len») d);
+      }
+
+  pub joined-fit : FitIn longer (lent t0 t1 q′ d)
+  joined-fit = held-fit c (c .«queue_len» + 1) t0 t1 q d q′ d (joined x v (storeOf c (lent t0 t1 q d))) fit (omega arith) joined-holds
+
+  pub joined-ready : Ready (c .«queue_len» + 1) (c .«detector_len») q′ d
+  joined-ready = held-ready c (c .«queue_len» + 1) t0 t1 q d q′ d (joined x v (storeOf c (lent t0 t1 q d))) fit (omega arith) joined-holds
+
+  pub joined-runs : {o : Outcome} → o ≡ ranOutcome longer (run (numbersOf longer) (c .«step_limit») (storeOf longer (lent t0 t1 q′ d)))
+      → o ≡ ranOutcome c (run (numbersOf c) (c .«step_limit») (joined x v (storeOf c (lent t0 t1 q d))))
+  unfolding wordsOf recordOf
+  joined-runs e = e ∙ ap (λ s. ranOutcome c (run (numbersOf c) (c .«step_limit») s)) (holds-store joined-holds)
+
+-- define, by what find answers
+module _ (n : Numbers) (x v : ℕ) (s : Store) where
+  abbrev placed : RulesOutcome
+  placed = refuseIf (leb (n .Q) (length (s .waiting))) 6 s (acceptedRun (run n (n .L) (joined x v s)))
+
+  pub define-held : find n x s .answer .number ≡ 0 → define n x v s ≡ refused 5 (find n x s .answer .value) s
+  unfolding find define
+  define-held = go (goodKey x) (lookup n x s)
+    where
+      go : (b : Bool) (o : Option ℕ) → refuseIf (not b) 4 s (orRefuse7 o s s) .answer .number ≡ 0
+          → refuseIf (not b) 4 s (refuse5 o s placed) ≡ refused 5 (refuseIf (not b) 4 s (orRefuse7 o s s) .answer .value) s
+      go false o h = absurd (omega arith)
+      go true none h = absurd (omega arith)
+      go true (some u) h = refl
+
+  pub define-bad : find n x s .answer .number ≡ 4 → define n x v s ≡ refused 4 0 s
+  unfolding find define
+  define-bad = go (goodKey x) (lookup n x s)
+    where
+      go : (b : Bool) (o : Option ℕ) → refuseIf (not b) 4 s (orRefuse7 o s s) .answer .number ≡ 4 → refuseIf (not b) 4 s (refuse5 o s placed) ≡ refused 4 0 s
+      go false o h = refl
+      go true none h = absurd (omega arith)
+      go true (some u) h = absurd (omega arith)
+
+  pub define-new : find n x s .answer .number ≢ 0 → find n x s .answer .number ≢ 4 → define n x v s ≡ placed
+  unfolding find define
+  define-new = go (goodKey x) (lookup n x s)
+    where
+      go : (b : Bool) (o : Option ℕ) → refuseIf (not b) 4 s (orRefuse7 o s s) .answer .number ≢ 0 → refuseIf (not b) 4 s (orRefuse7 o s s) .answer .number ≢ 4
+          → refuseIf (not b) 4 s (refuse5 o s placed) ≡ placed
+      go false o h k = absurd (k refl)
+      go true none h k = refl
+      go true (some u) h k = absurd (h refl)
+
+-- the same of words, f being what find answers
+module _ (c : Control) (x v : ℕ) (t0 t1 q d : List ℕ) (f : Answer) (is : (k : List ℕ) → f ≡ answered c (find (numbersOf c) x (storeOf c (lent t0 t1 q k)) .answer)) where
+  abbrev m : Lent
+  m = lent t0 t1 q d
+
+  abbrev Defines : Outcome → Type 0
+  Defines o = o ≡ leaves c m (define (numbersOf c) x v (storeOf c m))
+
+  number-is : f .number ≡ find (numbersOf c) x (storeOf c m) .answer .number
+  number-is = ap (λ (a : Answer). a .number) (is d)
+
+  waits : length (entriesIn (c .«queue_len») q) ≡ c .«queue_len»
+  waits = length-readMany entryForm (c .«queue_len») q
+
+  pub refuses-held : {a : Answer} → f .number ≡ 0 → a ≡ answered c (answer 5 (f .value) 0 0) → Defines (outcome m a)
+  unfolding leaves
+  refuses-held h e =
+      ap (outcome m) (e ∙ ap (λ (g : Answer). answered c (answer 5 (g .value) 0 0)) (is d))
+      ∙ sym (ap (leaves c m) (define-held (numbersOf c) x v (storeOf c m) (sym number-is ∙ h)))
+
+  pub refuses-bad : {a : Answer} → f .number ≡ 4 → a ≡ answered c (answer 4 0 0 0) → Defines (outcome m a)
+  unfolding leaves
+  refuses-bad h e = ap (outcome m) e ∙ sym (ap (leaves c m) (define-bad (numbersOf c) x v (storeOf c m) (sym number-is ∙ h)))
+
+  module _ (absent : f .number ≢ 0) (good : f .number ≢ 4) where
+    placed-at : (b : Bool) → leb (c .«queue_room») (length (entriesIn (c .«queue_len») q)) ≡ b
+        → define (numbersOf c) x v (storeOf c m) ≡ refuseIf b 6 (storeOf c m) (acceptedRun (run (numbersOf c) (c .«step_limit») (joined x v (storeOf c m))))
+    placed-at b e =
+        define-new (numbersOf c) x v (storeOf c m) (λ h. absent (number-is ∙ h)) (λ h. good (number-is ∙ h))
+        ∙ ap (λ k. refuseIf k 6 (storeOf c m) (acceptedRun (run (numbersOf c) (c .«step_limit») (joined x v (storeOf c m))))) e
+
+    pub refuses-full : {a : Answer} → c .«queue_room» ≤ c .«queue_len» → a ≡ answered c (answer 6 0 0 0) → Defines (outcome m a)
+    unfolding leaves
+    refuses-full l e = ap (outcome m) e ∙ sym (ap (leaves c m) (placed-at true (le-leb (c .«queue_room») (length (entriesIn (c .«queue_len») q)) (omega (arith, waits)))))
+
+    pub defines : {q′ d′ : List ℕ} {o : Outcome} → c .«queue_len» < c .«queue_room» → FitIn c m → Tidied c q d q′ d′
+        → o ≡ ranOutcome c (run (numbersOf c) (c .«step_limit») (joined x v (storeOf c (lent t0 t1 q′ d′)))) → Defines o
+    unfolding leaves
+    defines {q′} {d′} l fit t e =
+        e ∙ ap (λ s. ranOutcome c (run (numbersOf c) (c .«step_limit») (joined x v s))) (tidied-store c t0 t1 q d q′ d′ fit t)
+        ∙ sym (ap (leaves c m) (placed-at false (lt-leb (c .«queue_room») (length (entriesIn (c .«queue_len») q)) (omega (arith, waits)))))

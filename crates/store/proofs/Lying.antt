@@ -1,0 +1,79 @@
+-- How words that hold a store of the rules lie: they are that store's words, tidied words hold the same store, and a run's words are its outcome.
+-- Assumes nothing.
+use Prim.Native.Nat.{ℕ, _*_, _≤_, _<_}
+use mathlib.Core.Path.{_≡_, refl, sym, _∙_, ap, subst}
+use mathlib.Core.List.{List, [], _∷_}
+use native.Mathlib.Omega.{arith}
+use lib.ListN.{length}
+use Rattle.rules.specs.Store.{Store, Numbers}
+use Rattle.rules.specs.Run.{Ran, run}
+use Rattle.rules.specs.Calls.{answer}
+use Rattle.numbers.specs.declared.Functions.{Functions}
+use Rattle.layout.specs.Forms.{cellForm, entryForm, pairForm, readMany, writeMany, packed}
+use Rattle.layout.proofs.Forms.{cell-lawful, entry-lawful, pair-lawful, length-readMany, write-all}
+use Rattle.layout.proofs.Packed.{length-packed}
+use Rattle.steps.specs.declared.Ended.{Ended}
+use Rattle.steps.specs.Shape.{cellsIn, entriesIn, pairsIn, storeIn, Ready, TablesReady, StepsWith, Holds, Runs}
+use Rattle.steps.proofs.Going.{holds-store, holds-ready}
+use Rattle.store.specs.declared.Control.{Control}
+use Rattle.store.specs.declared.Answer.{Answer}
+use Rattle.store.specs.Memory.{Lent, lent, functionsOf, numbersOf, storeOf, wordsOf, recordOf, withLens}
+use Rattle.store.specs.Refusals.{Outcome, outcome, answered}
+use Rattle.store.specs.Inner.{Rooms, Fit, FitIn, Tidied, ranOutcome}
+
+-- an outcome by its five parts
+pub as-one : {t0 t1 q d u0 u1 p e : List ℕ} {a b : Answer} → t0 ≡ u0 → t1 ≡ u1 → q ≡ p → d ≡ e → a ≡ b → outcome (lent t0 t1 q d) a ≡ outcome (lent u0 u1 p e) b
+as-one e0 e1 e2 e3 e4 = λ i. outcome (lent (e0 i) (e1 i) (e2 i) (e3 i)) (e4 i)
+
+pub tables-ready : (c : Control) (m : Lent) → FitIn c m → TablesReady (c .r) (m .table0) (m .table1)
+tables-ready c m fit = record { some = fit .some; small = fit .small; first = fit .first; second = fit .second }
+
+pub queue-bounds : (c : Control) (m : Lent) → FitIn c m → (3 * c .«queue_len» ≤ length (m .queue)) × (length (m .queue) ≤ 192)
+queue-bounds c m fit = let r = fit .rooms in (omega arith, omega arith)
+
+-- words that hold a store are its words
+pub held-words : (c : Control) (nq nd : ℕ) (s : Store) (t0 t1 q d : List ℕ) (ql dl : ℕ) (a b : Answer) → length t0 ≡ 2 * c .r → length t1 ≡ 2 * c .r
+    → nq ≡ 3 * c .«queue_room» → nd ≡ 2 * c .«detector_room» → Holds (c .r) nq nd s t0 t1 q d ql dl → a ≡ b → outcome (lent t0 t1 q d) a ≡ outcome (wordsOf c s) b
+unfolding wordsOf
+held-words c nq nd s t0 t1 q d ql dl a b l0 l1 eq ed h e = as-one
+    (sym (write-all cellForm cell-lawful (c .r) t0 l0) ∙ ap (writeMany cellForm) (h .first))
+    (sym (write-all cellForm cell-lawful (c .r) t1 l1) ∙ ap (writeMany cellForm) (h .second))
+    (h .queue ∙ ap (λ k. packed entryForm k (s .waiting)) eq)
+    (h .detector ∙ ap (λ k. packed pairForm k (s .marked)) ed)
+    e
+
+-- tidied words hold the same store
+module _ (c : Control) (t0 t1 q d q′ d′ : List ℕ) (rooms : Rooms c (length q) (length d)) (tidied : Tidied c q d q′ d′) where
+  pub tidied-holds : Holds (c .r) (length q) (length d) (storeOf c (lent t0 t1 q d)) t0 t1 q′ d′ (c .«queue_len») (c .«detector_len»)
+  tidied-holds = record {
+    first = refl;
+    second = refl;
+    queue = tidied .queue;
+    detector = tidied .detector;
+    queue-len = sym (length-readMany entryForm (c .«queue_len») q);
+    detector-len = sym (length-readMany pairForm (c .«detector_len») d);
+  }
+
+  pub tidied-queue : length q′ ≡ length q
+  tidied-queue = ap length (tidied .queue) ∙ length-packed entryForm entry-lawful (length q) (entriesIn (c .«queue_len») q)
+      (omega (arith, length-readMany entryForm (c .«queue_len») q, rooms .queue-in, rooms .queue))
+
+  pub tidied-detector : length d′ ≡ length d
+  tidied-detector = ap length (tidied .detector) ∙ length-packed pairForm pair-lawful (length d) (pairsIn (c .«detector_len») d)
+      (omega (arith, length-readMany pairForm (c .«detector_len») d, rooms .detector-in, rooms .detector))
+
+  pub tidied-store : storeOf c (lent t0 t1 q′ d′) ≡ storeOf c (lent t0 t1 q d)
+  tidied-store = holds-store tidied-holds
+
+-- a run's words are its outcome
+module _ (c : Control) (m : Lent) (fit : FitIn c m) (budget : ℕ) where
+  pub runs-with : StepsWith (numbersOf c) (functionsOf c) (c .«detector_room»)
+  runs-with = record { detector-room = refl; homes = refl }
+
+  pub ran-out : (t0 t1 q d : List ℕ) (e : Ended) → Runs (c .r) (length (m .queue)) (length (m .detector)) (run (numbersOf c) budget (storeOf c m)) t0 t1 q d e
+      → length t0 ≡ length (m .table0) → length t1 ≡ length (m .table1)
+      → outcome (lent t0 t1 q d) (record { control = withLens c (e .«queue_len») (e .«detector_len»); number = 0; value = 0; steps = e .steps; moves = e .moves })
+      ≡ ranOutcome c (run (numbersOf c) budget (storeOf c m))
+  unfolding recordOf
+  ran-out t0 t1 q d e r l0 l1 = held-words c _ _ _ t0 t1 q d _ _ _ _ (l0 ∙ fit .first) (l1 ∙ fit .second) (fit .rooms .queue) (fit .rooms .detector) (r .words)
+      (λ i. record { control = withLens c (r .words .queue-len i) (r .words .detector-len i); number = 0; value = 0; steps = r .steps i; moves = r .moves i })

@@ -1,0 +1,71 @@
+-- Document 01, "The calls", over control records and lent words: one definition for the whole outcome of each call, refusals included. Assumes
+-- nothing.
+use Prim.Native.Nat.{ℕ, _+_, _*_}
+use mathlib.Core.Bool.{Bool, cond, not, _&&_}
+use mathlib.Core.List.{List, [], _∷_}
+use lib.Dec.{eqb}
+use lib.ListN.{length, set, drop}
+use Rattle.rules.specs.Store.{Table, table-0, table-1, Store, fresh}
+use Rattle.rules.specs.Search.{Place, inTable, waitingAt, nowhere, search}
+use Rattle.rules.specs.Calls.{Answer as RulesAnswer, answer, Outcome as RulesOutcome, find, define, change, remove, settle, Call, Find, Define, Change, Remove, Settle}
+use Rattle.rules.specs.Keeps.{isAccepted}
+use Rattle.store.specs.declared.Control.{Control}
+use Rattle.store.specs.declared.Answer.{Answer}
+use Rattle.store.specs.Memory.{Lent, lent, numbersOf, storeOf, wordsOf, recordOf, withLens}
+use Rattle.store.specs.Refusals.{inRange, sized, Outcome, outcome, answered, keeps, refuseIf, unlessFault}
+
+-- a record of zeros
+abbrev pub zeros : Control
+zeros = record { r = 0; «queue_room» = 0; «detector_room» = 0; «step_limit» = 0; a0 = 0; b0 = 0; a1 = 0; b1 = 0; «queue_len» = 0; «detector_len» = 0 }
+
+-- a record with these numbers and both lengths 0
+abbrev pub newRecord : (r Q D L a0 b0 a1 b1 : ℕ) → Control
+newRecord r Q D L a0 b0 a1 b1 =
+    record { r = r; «queue_room» = Q; «detector_room» = D; «step_limit» = L; a0 = a0; b0 = b0; a1 = a1; b1 = b1; «queue_len» = 0; «detector_len» = 0 }
+
+-- "Open: checks numbers and lengths, writes zero to every word, gives a record with both lengths 0"; "Open gives only 1 and 2, and then a record of
+-- zeros"
+unfoldable pub opened : Control → Lent → Outcome
+opened c m =
+    cond (not (inRange c)) (keeps zeros m (answer 1 0 0 0))
+    (cond (not (sized c (length (m .table0)) (length (m .table1)) (length (m .queue)) (length (m .detector)))) (keeps zeros m (answer 2 0 0 0))
+    (keeps (withLens c 0 0) (wordsOf c (fresh (numbersOf c))) (answer 0 0 0 0)))
+
+-- Find leaves every word.
+unfoldable pub found : Control → ℕ → Lent → Outcome
+found c x m = unlessFault c m (keeps c m (find (numbersOf c) x (storeOf c m) .answer))
+
+-- what an accepted define, remove or settle leaves: the words and the record of what the rules leave; a refused one leaves all as it was
+unfoldable pub leaves : Control → Lent → RulesOutcome → Outcome
+leaves c m o = cond (isAccepted (o .answer)) (outcome (wordsOf c (o .store)) (answered (recordOf c (o .store)) (o .answer))) (keeps c m (o .answer))
+
+unfoldable pub defined : Control → ℕ → ℕ → Lent → Outcome
+defined c x v m = unlessFault c m (leaves c m (define (numbersOf c) x v (storeOf c m)))
+
+-- the words with another value at a place: places past the lengths stay as they are
+abbrev pub putValue : Place → ℕ → Lent → Lent
+putValue (inTable table-0 i) v m = lent (set (m .table0) (2 * i + 1) v) (m .table1) (m .queue) (m .detector)
+putValue (inTable table-1 i) v m = lent (m .table0) (set (m .table1) (2 * i + 1) v) (m .queue) (m .detector)
+putValue (waitingAt j) v m = lent (m .table0) (m .table1) (set (m .queue) (3 * j + 1) v) (m .detector)
+putValue nowhere v m = m
+
+-- "Change: the value at the place that find would use is replaced", if the rules accept it
+unfoldable pub changing : Control → ℕ → ℕ → Lent → RulesAnswer → Outcome
+changing c x v m a = cond (isAccepted a) (keeps c (putValue (search (numbersOf c) x (storeOf c m)) v m) a) (keeps c m a)
+
+unfoldable pub changed : Control → ℕ → ℕ → Lent → Outcome
+changed c x v m = unlessFault c m (changing c x v m (change (numbersOf c) x v (storeOf c m) .answer))
+
+unfoldable pub removed : Control → ℕ → Lent → Outcome
+removed c x m = unlessFault c m (leaves c m (remove (numbersOf c) x (storeOf c m)))
+
+unfoldable pub settled : Control → ℕ → Lent → Outcome
+settled c n m = unlessFault c m (leaves c m (settle (numbersOf c) n (storeOf c m)))
+
+-- the calls on an open store
+abbrev pub does : Call → Control → Lent → Outcome
+does (Find x) c m = found c x m
+does (Define x v) c m = defined c x v m
+does (Change x v) c m = changed c x v m
+does (Remove x) c m = removed c x m
+does (Settle n) c m = settled c n m

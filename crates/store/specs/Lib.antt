@@ -1,0 +1,9 @@
+pub mod Memory
+pub mod Refusals
+pub mod Calls
+pub mod Inner
+pub mod Sound
+pub mod Demand1
+pub mod Demand2
+pub mod Demand3
+pub mod Claims

@@ -1,0 +1,33 @@
+-- Document 01, "A store is sound if ..", of a record and its buffers; and that open gives such a store and each call keeps it. The claims. Assumes
+-- nothing.
+use Prim.Native.Nat.{ℕ, _*_, _≤_}
+use mathlib.Core.Path.{_≡_}
+use mathlib.Core.Bool.{Bool, true}
+use lib.ListN.{length, getD}
+use Rattle.rules.specs.Sound.{Sound}
+use Rattle.rules.specs.Calls.{Call}
+use Rattle.store.specs.declared.Control.{Control}
+use Rattle.store.specs.Memory.{Lent, numbersOf, storeOf}
+use Rattle.store.specs.Refusals.{inRange, sized}
+use Rattle.store.specs.Calls.{opened, does}
+
+abbrev pub sizedIn : Control → Lent → Bool
+sizedIn c m = sized c (length (m .table0)) (length (m .table1)) (length (m .queue)) (length (m .detector))
+
+pub record SoundIn (c : Control) (m : Lent) : Type 0 where
+  -- "its record is in range", the numbers of its functions too
+  pub in-range : inRange c ≡ true
+  pub buffers : sizedIn c m ≡ true
+  -- what the rules call sound, of the store that record and words stand for
+  pub sound : Sound (numbersOf c) (storeOf c m)
+  -- "places past the lengths are zero"
+  pub queue-zeros : (i : ℕ) → 3 * c .«queue_len» ≤ i → getD (m .queue) i 0 ≡ 0
+  pub detector-zeros : (i : ℕ) → 2 * c .«detector_len» ≤ i → getD (m .detector) i 0 ≡ 0
+
+-- "Open gives a sound store"
+abbrev pub OpenIsSound : Type 0
+OpenIsSound = (c : Control) (m : Lent) → opened c m .answer .number ≡ 0 → SoundIn (opened c m .answer .control) (opened c m .lent)
+
+-- "and each call keeps it sound"
+abbrev pub CallKeepsSound : Type 0
+CallKeepsSound = (call : Call) (c : Control) (m : Lent) → SoundIn c m → SoundIn (does call c m .answer .control) (does call c m .lent)
