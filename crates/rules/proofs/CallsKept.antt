@@ -187,7 +187,7 @@ module _ (n : Numbers) (into : IntoCells n) (s : Store) (sound : SoundContents n
         go false e = elsewhere n x s (without p s) sound removed-sound (λ w none. omega (arith, removed-weight w, none old)) k good′ (eqb-false x k e)
 
 -- what holds of refusals 4 and 7 and of the accepted call holds of find, change and remove
-by-found : (n : Numbers) (s : Store) → SoundContents n s → (x : ℕ) (after : Store) (P : Outcome → Type 0) → P (refused 4 0 s) → P (refused 7 0 s)
+pub by-found : (n : Numbers) (s : Store) → SoundContents n s → (x : ℕ) (after : Store) (P : Outcome → Type 0) → P (refused 4 0 s) → P (refused 7 0 s)
     → ((old : ℕ) → IsGood x → keyAt (search n x s) s ≡ x → valueAt (search n x s) s ≡ some old → cell x old ∈ contents s → P (accepted old after))
     → P (refuseIf (not (goodKey x)) 4 s (orRefuse7 (lookup n x s) s after))
 unfolding Looked lookup

@@ -41,7 +41,7 @@ going (next past (called call)) = on (going past)
 
 module _ (n : Numbers) (s : Store) (sound : SoundContents n s) (k : ℕ) (good : IsGood k) where
   -- find answers what lookup finds
-  found : (o : Option ℕ) → lookup n k s ≡ o → find n k s .answer ≡ told o
+  pub found : (o : Option ℕ) → lookup n k s ≡ o → find n k s .answer ≡ told o
   unfolding find
   found o e = subst (λ b. refuseIf (not b) 4 s (orRefuse7 (lookup n k s) s s) .answer ≡ told o) (sym good)
       (subst (λ l. orRefuse7 l s s .answer ≡ told o) (sym e) (answers o))
@@ -51,7 +51,7 @@ module _ (n : Numbers) (s : Store) (sound : SoundContents n s) (k : ℕ) (good :
       answers (some v) = refl
 
   -- a key lies where the search finds it, or nowhere
-  places : (o : Option ℕ) → lookup n k s ≡ o → Lies o k s
+  pub places : (o : Option ℕ) → lookup n k s ≡ o → Lies o k s
   places o e = go o (subst (Looked n s sound k good) e (looked n s sound k good))
     where
       go : (o : Option ℕ) → Looked n s sound k good o → Lies o k s

@@ -20,7 +20,7 @@ use Rattle.steps.specs.declared.Turn.{Turn}
 use Rattle.steps.specs.Shape.{cellsIn, entriesIn, pairsIn, entry, pair, turn, Ready, Landed, Aside, Swapped, withTable, tablesWith, After}
 
 -- a cell of the table in hand
-cell-in : (t : Table) (cs o : List Cell) (i : ℕ) → cellAt (withTable t cs o) t i ≡ getD cs i freeCell
+pub cell-in : (t : Table) (cs o : List Cell) (i : ℕ) → cellAt (withTable t cs o) t i ≡ getD cs i freeCell
 cell-in table-0 cs o i = refl
 cell-in table-1 cs o i = refl
 

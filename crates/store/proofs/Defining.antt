@@ -1,4 +1,4 @@
--- Define: tidied words hold the same store, words with one entry more hold the joined one, and the cases of define by what find answers. Assumes nothing.
+-- Define: words with one entry more hold the joined one, and the cases of define by what find answers. Assumes nothing.
 use Prim.Native.Nat.{ℕ, _+_, _*_, _≤_, _<_}
 use mathlib.Core.Path.{_≡_, refl, sym, ap, _∙_}
 use mathlib.Core.Logic.{_≢_}
@@ -19,60 +19,14 @@ use Rattle.layout.specs.Forms.{entryForm, pairForm}
 use Rattle.layout.proofs.Forms.{entry-lawful, length-readMany}
 use Rattle.layout.proofs.Ready.{one-behind}
 use Rattle.steps.specs.Shape.{Ready, Holds, entriesIn, entry}
-use Rattle.steps.proofs.Going.{holds-store, holds-queue, holds-detector, holds-ready}
+use Rattle.steps.proofs.Going.{holds-store}
 use Rattle.store.specs.declared.Control.{Control}
 use Rattle.store.specs.declared.Answer.{Answer}
 use Rattle.store.specs.Memory.{Lent, lent, numbersOf, storeOf, wordsOf, recordOf, withLens}
 use Rattle.store.specs.Refusals.{Outcome, outcome, answered}
 use Rattle.store.specs.Calls.{leaves}
 use Rattle.store.specs.Inner.{FitIn, Tidied, ranOutcome}
-
--- words that hold a store, of the lengths that fit a record: they fit it, are ready, and stand for the store
-module _ (c : Control) (ql : ℕ) (t0 t1 q d q′ d′ : List ℕ) (s : Store) (fit : FitIn c (lent t0 t1 q d)) (few : ql ≤ c .«queue_room»)
-    (h : Holds (c .r) (length q) (length d) s t0 t1 q′ d′ ql (c .«detector_len»)) where
-  pub held-fit : FitIn (withLens c ql (c .«detector_len»)) (lent t0 t1 q′ d′)
-  held-fit =
-      let w = fit .rooms in
-      let lq : length q′ ≡ length q = holds-queue h (omega arith) in
-      let ld : length d′ ≡ length d = holds-detector h (omega arith) in
-      record {
-        some = fit .some;
-        small = fit .small;
-        limit-small = fit .limit-small;
-        first = fit .first;
-        second = fit .second;
-        rooms = record {
-          queue-small = w .queue-small;
-          detector-small = w .detector-small;
-          queue = lq ∙ w .queue;
-          detector = ld ∙ w .detector;
-          queue-in = few;
-          detector-in = w .detector-in;
-        };
-      }
-
-  pub held-ready : Ready ql (c .«detector_len») q′ d′
-  held-ready = let w = fit .rooms in holds-ready h (omega arith) (omega arith) (omega arith) (omega arith)
-
-module _ (c : Control) (t0 t1 q d q′ d′ : List ℕ) (fit : FitIn c (lent t0 t1 q d)) (t : Tidied c q d q′ d′) where
-  tidied-holds : Holds (c .r) (length q) (length d) (storeOf c (lent t0 t1 q d)) t0 t1 q′ d′ (c .«queue_len») (c .«detector_len»)
-  tidied-holds = record {
-    first = refl;
-    second = refl;
-    queue = t .queue;
-    detector = t .detector;
-    queue-len = sym (length-readMany entryForm (c .«queue_len») q);
-    detector-len = sym (length-readMany pairForm (c .«detector_len») d);
-  }
-
-  pub tidied-fit : FitIn c (lent t0 t1 q′ d′)
-  tidied-fit = held-fit c (c .«queue_len») t0 t1 q d q′ d′ (storeOf c (lent t0 t1 q d)) fit (fit .rooms .queue-in) tidied-holds
-
-  pub tidied-ready : Ready (c .«queue_len») (c .«detector_len») q′ d′
-  tidied-ready = held-ready c (c .«queue_len») t0 t1 q d q′ d′ (storeOf c (lent t0 t1 q d)) fit (fit .rooms .queue-in) tidied-holds
-
-  pub tidied-store : storeOf c (lent t0 t1 q′ d′) ≡ storeOf c (lent t0 t1 q d)
-  tidied-store = holds-store tidied-holds
+use Rattle.store.proofs.Lying.{held-fit, held-ready, tidied-store}
 
 -- the entry (x, v, 0) put behind those that wait
 module _ (c : Control) (x v : ℕ) (t0 t1 q d q′ : List ℕ) (more : c .«queue_len» < c .«queue_room») (fit : FitIn c (lent t0 t1 q d))

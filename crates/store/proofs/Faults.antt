@@ -15,7 +15,7 @@ use Rattle.store.specs.Memory.{Lent}
 use Rattle.store.specs.Refusals.{inRange, sized, filled, Outcome, keeps, refuseIf, unlessFault}
 use Rattle.store.specs.Inner.{faultOf, Rooms, Fit, FitIn}
 
-both : (a b : Bool) → (a && b) ≡ true → (a ≡ true) × (b ≡ true)
+pub both : (a b : Bool) → (a && b) ≡ true → (a ≡ true) × (b ≡ true)
 both a b e = and-eq-true-iff a b .0 e
 
 -- the record's numbers, each in its range

@@ -5,3 +5,10 @@ pub mod Opening
 pub mod Searching
 pub mod Defining
 pub mod Removing
+pub mod Demand1
+pub mod Written
+pub mod Putting
+pub mod Simulation
+pub mod Demand2
+pub mod Demand3
+pub mod Claims

@@ -11,10 +11,9 @@ use Rattle.rules.specs.Calls.{answer}
 use Rattle.numbers.specs.declared.Functions.{Functions}
 use Rattle.layout.specs.Forms.{cellForm, entryForm, pairForm, readMany, writeMany, packed}
 use Rattle.layout.proofs.Forms.{cell-lawful, entry-lawful, pair-lawful, length-readMany, write-all}
-use Rattle.layout.proofs.Packed.{length-packed}
 use Rattle.steps.specs.declared.Ended.{Ended}
 use Rattle.steps.specs.Shape.{cellsIn, entriesIn, pairsIn, storeIn, Ready, TablesReady, StepsWith, Holds, Runs}
-use Rattle.steps.proofs.Going.{holds-store, holds-ready}
+use Rattle.steps.proofs.Going.{holds-store, holds-queue, holds-detector, holds-ready}
 use Rattle.store.specs.declared.Control.{Control}
 use Rattle.store.specs.declared.Answer.{Answer}
 use Rattle.store.specs.Memory.{Lent, lent, functionsOf, numbersOf, storeOf, wordsOf, recordOf, withLens}
@@ -42,25 +41,49 @@ held-words c nq nd s t0 t1 q d ql dl a b l0 l1 eq ed h e = as-one
     (h .detector ∙ ap (λ k. packed pairForm k (s .marked)) ed)
     e
 
--- tidied words hold the same store
-module _ (c : Control) (t0 t1 q d q′ d′ : List ℕ) (rooms : Rooms c (length q) (length d)) (tidied : Tidied c q d q′ d′) where
+-- words that hold a store, of the lengths that fit a record: they fit it, are ready, and stand for the store
+module _ (c : Control) (ql : ℕ) (t0 t1 q d q′ d′ : List ℕ) (s : Store) (fit : FitIn c (lent t0 t1 q d)) (few : ql ≤ c .«queue_room»)
+    (h : Holds (c .r) (length q) (length d) s t0 t1 q′ d′ ql (c .«detector_len»)) where
+  pub held-fit : FitIn (withLens c ql (c .«detector_len»)) (lent t0 t1 q′ d′)
+  held-fit =
+      let w = fit .rooms in
+      let lq : length q′ ≡ length q = holds-queue h (omega arith) in
+      let ld : length d′ ≡ length d = holds-detector h (omega arith) in
+      record {
+        some = fit .some;
+        small = fit .small;
+        limit-small = fit .limit-small;
+        first = fit .first;
+        second = fit .second;
+        rooms = record {
+          queue-small = w .queue-small;
+          detector-small = w .detector-small;
+          queue = lq ∙ w .queue;
+          detector = ld ∙ w .detector;
+          queue-in = few;
+          detector-in = w .detector-in;
+        };
+      }
+
+  pub held-ready : Ready ql (c .«detector_len») q′ d′
+  held-ready = let w = fit .rooms in holds-ready h (omega arith) (omega arith) (omega arith) (omega arith)
+
+module _ (c : Control) (t0 t1 q d q′ d′ : List ℕ) (fit : FitIn c (lent t0 t1 q d)) (t : Tidied c q d q′ d′) where
   pub tidied-holds : Holds (c .r) (length q) (length d) (storeOf c (lent t0 t1 q d)) t0 t1 q′ d′ (c .«queue_len») (c .«detector_len»)
   tidied-holds = record {
     first = refl;
     second = refl;
-    queue = tidied .queue;
-    detector = tidied .detector;
+    queue = t .queue;
+    detector = t .detector;
     queue-len = sym (length-readMany entryForm (c .«queue_len») q);
     detector-len = sym (length-readMany pairForm (c .«detector_len») d);
   }
 
-  pub tidied-queue : length q′ ≡ length q
-  tidied-queue = ap length (tidied .queue) ∙ length-packed entryForm entry-lawful (length q) (entriesIn (c .«queue_len») q)
-      (omega (arith, length-readMany entryForm (c .«queue_len») q, rooms .queue-in, rooms .queue))
+  pub tidied-fit : FitIn c (lent t0 t1 q′ d′)
+  tidied-fit = held-fit c (c .«queue_len») t0 t1 q d q′ d′ (storeOf c (lent t0 t1 q d)) fit (fit .rooms .queue-in) tidied-holds
 
-  pub tidied-detector : length d′ ≡ length d
-  tidied-detector = ap length (tidied .detector) ∙ length-packed pairForm pair-lawful (length d) (pairsIn (c .«detector_len») d)
-      (omega (arith, length-readMany pairForm (c .«detector_len») d, rooms .detector-in, rooms .detector))
+  pub tidied-ready : Ready (c .«queue_len») (c .«detector_len») q′ d′
+  tidied-ready = held-ready c (c .«queue_len») t0 t1 q d q′ d′ (storeOf c (lent t0 t1 q d)) fit (fit .rooms .queue-in) tidied-holds
 
   pub tidied-store : storeOf c (lent t0 t1 q′ d′) ≡ storeOf c (lent t0 t1 q d)
   tidied-store = holds-store tidied-holds

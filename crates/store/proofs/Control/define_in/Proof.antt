@@ -1,7 +1,8 @@
 -- `store::Control::define_in` meets its contract: what find answers picks the case; the words that `tidy` leaves hold the same store, and `join` goes on
 -- from there. Assumes nothing.
 use borrow.Author.Needs.{needs}
-use Rattle.store.proofs.Defining.{tidied-fit, tidied-ready, refuses-held, refuses-bad, refuses-full, defines}
+use Rattle.store.proofs.Lying.{tidied-fit, tidied-ready}
+use Rattle.store.proofs.Defining.{refuses-held, refuses-bad, refuses-full, defines}
 use Rattle.store.proofs.Control.define_in.Statement.{statement}
 use Rattle.store.proofs.Control.define_in.Tie as tie
 

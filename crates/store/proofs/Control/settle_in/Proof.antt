@@ -3,7 +3,8 @@ use mathlib.Core.Path.{sym, _∙_, ap}
 use native.Mathlib.Nat.{le-trans}
 use Rattle.store.specs.Memory.{lent}
 use Rattle.store.specs.Refusals.{outcome}
-use Rattle.store.proofs.Settling.{too-many, tidy-fit, tidy-ready, settles}
+use Rattle.store.proofs.Lying.{tidied-fit, tidied-ready}
+use Rattle.store.proofs.Settling.{too-many, settles}
 use borrow.Author.Needs.{needs}
 use Rattle.store.proofs.Control.settle_in.Statement.{statement}
 use Rattle.store.proofs.Control.settle_in.Tie as tie
@@ -31,7 +32,7 @@ run-out-requires c κs =
     let a = s .args in
     let fit = s .pre in
     let tidy = c .before .before .before .before .before .before .before .before .tidy .ensures in
-    (le-trans (c .before .before .before .before .before .before .before .before .before .before .before .if1 .left) (fit .limit-small), (tidy-fit (a .self) (a .t0 .now) (a .t1 .now) (a .queue .now) (a .detector .now) _ _ fit tidy, tidy-ready (a .self) (a .t0 .now) (a .t1 .now) (a .queue .now) (a .detector .now) _ _ fit tidy))
+    (le-trans (c .before .before .before .before .before .before .before .before .before .before .before .if1 .left) (fit .limit-small), (tidied-fit (a .self) (a .t0 .now) (a .t1 .now) (a .queue .now) (a .detector .now) _ _ fit tidy, tidied-ready (a .self) (a .t0 .now) (a .t1 .now) (a .queue .now) (a .detector .now) _ _ fit tidy))
 
 same-length : tie.Need-same-length
 same-length c = search needs

@@ -1,0 +1,83 @@
+-- Laws of the zeros past the lengths, and of the whole test: the first part that fails. Assumes nothing.
+use Prim.Native.Nat.{ℕ, zero, suc, _+_, _*_, _≤_, _<_}
+use mathlib.Core.Path.{_≡_, refl, ap, _∙_}
+use mathlib.Core.Logic.{_≢_}
+use mathlib.Core.Bool.{Bool, true, false, _&&_}
+use mathlib.Core.List.{List, [], _∷_}
+use native.Mathlib.Omega.{arith}
+use native.Mathlib.Numerals.{add-one}
+use borrow.Author.Tests.{eq-eqb, ne-eqb}
+use lib.Dec.{eqb}
+use lib.ListN.{length, getD, drop}
+use lib.Seq.{drop-cons}
+use Rattle.rules.specs.Store.{table-0, table-1, Tables, Numbers}
+use Rattle.rules.specs.Check.{cellsOk, queueOk, marksOk, isSound}
+use Rattle.steps.specs.Shape.{cellsIn, entriesIn, pairsIn}
+use Rattle.checks.specs.Zeros.{allZero, soundIn}
+
+module _ (ws : List ℕ) (i : ℕ) where
+  zeros-step : i < length ws → allZero (drop i ws) ≡ eqb (getD ws i 0) 0 && allZero (drop (i + 1) ws)
+  unfolding allZero
+  zeros-step l = ap allZero (drop-cons ws i 0 l) ∙ simp add-one
+
+  pub not-zero : i < length ws → getD ws i 0 ≢ 0 → allZero (drop i ws) ≡ false
+  not-zero l e = simp (ne-eqb _ _ e) at (zeros-step l)
+
+  pub zero-here : i < length ws → getD ws i 0 ≡ 0 → allZero (drop i ws) ≡ allZero (drop (i + 1) ws)
+  zero-here l e = simp (eq-eqb _ _ e) at (zeros-step l)
+
+gone : (ws : List ℕ) (i : ℕ) → length ws ≤ i → drop i ws ≡ []
+gone [] zero l = refl
+gone [] (suc i) l = refl
+gone (x ∷ ws) zero l = absurd (omega arith)
+gone (x ∷ ws) (suc i) l = gone ws i (omega arith)
+
+pub zeros-end : (ws : List ℕ) (i : ℕ) → length ws ≤ i → allZero (drop i ws) ≡ true
+unfolding allZero
+zeros-end ws i l = ap allZero (gone ws i l)
+
+module _ (n : Numbers) (r ql dl : ℕ) (t0 t1 q d : List ℕ) where
+  abbrev both : Tables
+  both = record { table0 = cellsIn r t0; table1 = cellsIn r t1 }
+
+  abbrev first : Bool
+  first = cellsOk n both table-0 0 (cellsIn r t0)
+
+  abbrev second : Bool
+  second = cellsOk n both table-1 0 (cellsIn r t1)
+
+  abbrev waiting : Bool
+  waiting = queueOk n both (entriesIn ql q)
+
+  abbrev marked : Bool
+  marked = marksOk (pairsIn dl d)
+
+  abbrev zeros : Bool
+  zeros = allZero (drop (3 * ql) q)
+
+  abbrev sound : Bool
+  sound = soundIn n r ql dl t0 t1 q d
+
+  pub bad-first : first ≡ false → false ≡ sound
+  unfolding soundIn isSound
+  bad-first a = simp a
+
+  pub bad-second : first ≡ true → second ≡ false → false ≡ sound
+  unfolding soundIn isSound
+  bad-second a b = simp (a, b)
+
+  pub bad-waiting : first ≡ true → second ≡ true → waiting ≡ false → false ≡ sound
+  unfolding soundIn isSound
+  bad-waiting a b c = simp (a, b, c)
+
+  pub bad-marked : first ≡ true → second ≡ true → waiting ≡ true → marked ≡ false → false ≡ sound
+  unfolding soundIn isSound
+  bad-marked a b c e = simp (a, b, c, e)
+
+  pub bad-zeros : first ≡ true → second ≡ true → waiting ≡ true → marked ≡ true → zeros ≡ false → false ≡ sound
+  unfolding soundIn isSound
+  bad-zeros a b c e g = simp (a, b, c, e, g)
+
+  pub last : first ≡ true → second ≡ true → waiting ≡ true → marked ≡ true → zeros ≡ true → (w : Bool) → w ≡ allZero (drop (2 * dl) d) → w ≡ sound
+  unfolding soundIn isSound
+  last a b c e g w h = simp (a, b, c, e, g) h
