@@ -60,16 +60,16 @@ sizes c n0 n1 nq nd h =
     let t = both (eqb n0 (2 * c .r)) (eqb n1 (2 * c .r)) (q .0) in
     record { first = eqb-true _ _ (t .0); second = eqb-true _ _ (t .1); queue = eqb-true _ _ (q .1); detector = eqb-true _ _ (d .1) }
 
-three : (a b c : Bool) → _≡_ {A = ℕ} (cond a (cond b (cond c 0 3) 2) 1) 0 → (a ≡ true) × (b ≡ true) × (c ≡ true)
-three true true true e = (refl, refl, refl)
-three true true false e = absurd (omega arith)
-three true false c e = absurd (omega arith)
-three false b c e = absurd (omega arith)
+pub accepted-tests : (a b c : Bool) → _≡_ {A = ℕ} (cond a (cond b (cond c 0 3) 2) 1) 0 → (a ≡ true) × (b ≡ true) × (c ≡ true)
+accepted-tests true true true e = (refl, refl, refl)
+accepted-tests true true false e = absurd (omega arith)
+accepted-tests true false c e = absurd (omega arith)
+accepted-tests false b c e = absurd (omega arith)
 
 pub no-fault : (c : Control) (n0 n1 nq nd : ℕ) → faultOf c n0 n1 nq nd ≡ 0 → Fit c n0 n1 nq nd
 unfolding faultOf filled
 no-fault c n0 n1 nq nd h =
-    let t = three (inRange c) (sized c n0 n1 nq nd) (leb (c .«queue_len») (c .«queue_room») && leb (c .«detector_len») (c .«detector_room»)) h in
+    let t = accepted-tests (inRange c) (sized c n0 n1 nq nd) (leb (c .«queue_len») (c .«queue_room») && leb (c .«detector_len») (c .«detector_room»)) h in
     let r = ranges c (t .0) in
     let s = sizes c n0 n1 nq nd (t .1) in
     let f = both (leb (c .«queue_len») (c .«queue_room»)) (leb (c .«detector_len») (c .«detector_room»)) (t .2) in

@@ -9,6 +9,7 @@ pub mod Demand1
 pub mod Written
 pub mod Putting
 pub mod Simulation
+pub mod Checking
 pub mod Demand2
 pub mod Demand3
 pub mod Claims

@@ -9,6 +9,7 @@ use Rattle.rules.specs.Store.{Table, table-0, table-1, Store, fresh}
 use Rattle.rules.specs.Search.{Place, inTable, waitingAt, nowhere, search}
 use Rattle.rules.specs.Calls.{Answer as RulesAnswer, answer, Outcome as RulesOutcome, find, define, change, remove, settle, Call, Find, Define, Change, Remove, Settle}
 use Rattle.rules.specs.Keeps.{isAccepted}
+use Rattle.checks.specs.Zeros.{soundIn}
 use Rattle.store.specs.declared.Control.{Control}
 use Rattle.store.specs.declared.Answer.{Answer}
 use Rattle.store.specs.Memory.{Lent, lent, numbersOf, storeOf, wordsOf, recordOf, withLens}
@@ -61,6 +62,16 @@ removed c x m = unlessFault c m (leaves c m (remove (numbersOf c) x (storeOf c m
 
 unfoldable pub settled : Control → ℕ → Lent → Outcome
 settled c n m = unlessFault c m (leaves c m (settle (numbersOf c) n (storeOf c m)))
+
+-- "Check: accepted exactly for a sound store"; 9, "check of a store that is not sound". The test is computed; that it passes exactly for a sound store is
+-- the claim `CheckIsExact`.
+unfoldable pub checking : Control → Lent → Outcome
+checking c m =
+    cond (soundIn (numbersOf c) (c .r) (c .«queue_len») (c .«detector_len») (m .table0) (m .table1) (m .queue) (m .detector))
+    (keeps c m (answer 0 0 0 0)) (keeps c m (answer 9 0 0 0))
+
+unfoldable pub checked : Control → Lent → Outcome
+checked c m = unlessFault c m (checking c m)
 
 -- the calls on an open store
 abbrev pub does : Call → Control → Lent → Outcome

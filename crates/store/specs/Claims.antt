@@ -1,5 +1,5 @@
 -- All that is claimed of the calls beside their contracts, on one page. `proofs/Claims.antt` proves it. Assumes nothing.
-use Rattle.store.specs.Sound.{OpenIsSound, CallKeepsSound}
+use Rattle.store.specs.Sound.{OpenIsSound, CallKeepsSound, CheckIsExact}
 use Rattle.store.specs.Demand1.{CallRefusalsChangeNothing, OpenRefusalsGiveZeros, CallsAreLimited}
 use Rattle.store.specs.Demand2.{Demand2}
 use Rattle.store.specs.Demand3.{Demand3, Demand3Converse}
@@ -7,6 +7,7 @@ use Rattle.store.specs.Demand3.{Demand3, Demand3Converse}
 pub record Claims : Type 0 where
   pub open-is-sound : OpenIsSound
   pub call-keeps-sound : CallKeepsSound
+  pub check-is-exact : CheckIsExact
   pub call-refusals-change-nothing : CallRefusalsChangeNothing
   pub open-refusals-give-zeros : OpenRefusalsGiveZeros
   pub calls-are-limited : CallsAreLimited

@@ -2,6 +2,7 @@
 -- nothing.
 use Prim.Native.Nat.{ℕ, _*_, _≤_}
 use mathlib.Core.Path.{_≡_}
+use mathlib.Core.Logic.{_↔_}
 use mathlib.Core.Bool.{Bool, true}
 use lib.ListN.{length, getD}
 use Rattle.rules.specs.Sound.{Sound}
@@ -9,7 +10,7 @@ use Rattle.rules.specs.Calls.{Call}
 use Rattle.store.specs.declared.Control.{Control}
 use Rattle.store.specs.Memory.{Lent, numbersOf, storeOf}
 use Rattle.store.specs.Refusals.{inRange, sized}
-use Rattle.store.specs.Calls.{opened, does}
+use Rattle.store.specs.Calls.{opened, checked, does}
 
 abbrev pub sizedIn : Control → Lent → Bool
 sizedIn c m = sized c (length (m .table0)) (length (m .table1)) (length (m .queue)) (length (m .detector))
@@ -31,3 +32,7 @@ OpenIsSound = (c : Control) (m : Lent) → opened c m .answer .number ≡ 0 → 
 -- "and each call keeps it sound"
 abbrev pub CallKeepsSound : Type 0
 CallKeepsSound = (call : Call) (c : Control) (m : Lent) → SoundIn c m → SoundIn (does call c m .answer .control) (does call c m .lent)
+
+-- "Check: accepted exactly for a sound store", both ways
+abbrev pub CheckIsExact : Type 0
+CheckIsExact = (c : Control) (m : Lent) → (checked c m .answer .number ≡ 0) ↔ SoundIn c m

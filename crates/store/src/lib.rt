@@ -9,7 +9,7 @@ ghost use Rattle.rules.specs.Run.{run};
 ghost use Rattle.steps.specs.Shape.{Ready, TablesReady};
 ghost use Rattle.store.specs.Memory.{lent, functionsOf, numbersOf, storeOf};
 ghost use Rattle.store.specs.Refusals.{inRange, sized, filled, outcome, answered};
-ghost use Rattle.store.specs.Calls.{zeros, newRecord, opened, found, leaves, defined, changing, changed, removed, settled};
+ghost use Rattle.store.specs.Calls.{zeros, newRecord, opened, found, leaves, defined, changing, changed, removed, settled, checking, checked};
 ghost use Rattle.store.specs.Inner.{faultOf, Rooms, Fit, FitIn, Located, Tidied, ranOutcome, Exchanged, CellGone, EntryGone};
 use numbers::Functions;
 
@@ -496,5 +496,36 @@ impl Control {
         words::clear(queue, 0, nq);
         words::clear(detector, 0, nd);
         c.reply(0, 0)
+    }
+
+    // Check, the record and the lengths being accepted.
+    fn check_in(self, t0: &[u32], t1: &[u32], queue: &[u32], detector: &[u32]) -> Answer
+        requires { ⌜ FitIn self (lent (now t0) (now t1) (now queue) (now detector)) ⌝ }
+        ensures { λ a. ⌜ outcome (lent (now (t0 .entry)) (now (t1 .entry)) (now (queue .entry)) (now (detector .entry))) a ≡ checking self (lent (now (t0 .entry)) (now (t1 .entry)) (now (queue .entry)) (now (detector .entry))) ⌝ }
+    {
+        let f = self.functions();
+        if checks::is_sound(
+            f,
+            self.queue_len,
+            self.detector_len,
+            t0,
+            t1,
+            queue,
+            detector,
+        ) {
+            return self.reply(0, 0);
+        }
+        self.reply(9, 0)
+    }
+
+    // Check: accepted exactly for a sound store.
+    pub fn check(self, t0: &[u32], t1: &[u32], queue: &[u32], detector: &[u32]) -> Answer
+        ensures { λ a. ⌜ outcome (lent (now (t0 .entry)) (now (t1 .entry)) (now (queue .entry)) (now (detector .entry))) a ≡ checked self (lent (now (t0 .entry)) (now (t1 .entry)) (now (queue .entry)) (now (detector .entry))) ⌝ }
+    {
+        let k = self.fault(t0.len(), t1.len(), queue.len(), detector.len());
+        if k != 0 {
+            return self.reply(k, 0);
+        }
+        self.check_in(t0, t1, queue, detector)
     }
 }

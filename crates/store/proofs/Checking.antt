@@ -1,0 +1,105 @@
+-- Check accepts exactly a sound store. Assumes nothing.
+use Prim.Native.Nat.{ℕ, zero, suc, _+_, _-_, _*_, _≤_}
+use mathlib.Core.Path.{_≡_, refl, sym, _∙_, ap, subst}
+use mathlib.Core.Logic.{_≢_, _↔_}
+use mathlib.Core.Bool.{Bool, true, false, cond, _&&_, and-eq-true-iff, false≢true}
+use mathlib.Core.List.{List, [], _∷_}
+use native.Mathlib.Omega.{arith}
+use native.Mathlib.Decide.{ℕ-discrete}
+use borrow.Author.Tests.{eqb-true, eq-eqb}
+use lib.Dec.{eqb, leb}
+use lib.ListN.{length, getD, drop}
+use lib.Seq.{getD-drop}
+use Rattle.rules.specs.Store.{Table, table-0, table-1, tableOf}
+use Rattle.rules.specs.Calls.{answer}
+use Rattle.rules.specs.Check.{isSound, Sized}
+use Rattle.rules.proofs.Check.{check-is-exact as rules-check-is-exact}
+use Rattle.layout.specs.Forms.{cellForm, entryForm, pairForm}
+use Rattle.layout.proofs.Forms.{length-readMany}
+use Rattle.checks.specs.Zeros.{allZero, soundIn}
+use Rattle.store.specs.declared.Control.{Control}
+use Rattle.store.specs.Memory.{Lent, numbersOf, storeOf}
+use Rattle.store.specs.Refusals.{inRange, sized, filled, Outcome, keeps}
+use Rattle.store.specs.Calls.{checking, checked}
+use Rattle.store.specs.Inner.{faultOf, FitIn}
+use Rattle.store.specs.Sound.{sizedIn, SoundIn, CheckIsExact}
+use Rattle.store.proofs.Faults.{both, accepted-tests, no-fault, faultIn, goes-on, keeps-all}
+use Rattle.store.proofs.Written.{own-ranges}
+use Rattle.store.proofs.Simulation.{no-faults, contents}
+
+-- the test of the words
+abbrev pub passes : Control → Lent → Bool
+passes c m = soundIn (numbersOf c) (c .r) (c .«queue_len») (c .«detector_len») (m .table0) (m .table1) (m .queue) (m .detector)
+
+pub check-accepts : (c : Control) (m : Lent) → passes c m ≡ true → keeps c m (answer 0 0 0 0) ≡ checking c m
+unfolding checking
+check-accepts c m h = simp h
+
+pub check-refuses : (c : Control) (m : Lent) → passes c m ≡ false → keeps c m (answer 9 0 0 0) ≡ checking c m
+unfolding checking
+check-refuses c m h = simp h
+
+-- words that are all zero
+zero-words : (l : List ℕ) → allZero l ≡ true → (i : ℕ) → getD l i 0 ≡ 0
+unfolding allZero
+zero-words [] h i = refl
+zero-words (x ∷ l) h zero = eqb-true x 0 ((both (eqb x 0) (allZero l) h) .0)
+zero-words (x ∷ l) h (suc i) = zero-words l ((both (eqb x 0) (allZero l) h) .1) i
+
+all-zero : (l : List ℕ) → ((i : ℕ) → getD l i 0 ≡ 0) → allZero l ≡ true
+unfolding allZero
+all-zero [] f = refl
+all-zero (x ∷ l) f = and-eq-true-iff (eqb x 0) (allZero l) .1 (eq-eqb x 0 (f 0), all-zero l (λ i. f (suc i)))
+
+past : (k : ℕ) (l : List ℕ) → allZero (drop k l) ≡ true → (i : ℕ) → k ≤ i → getD l i 0 ≡ 0
+past k l h i le = let e : k + (i - k) ≡ i = omega arith in ap (λ j. getD l j 0) (sym e) ∙ sym (getD-drop k l (i - k) 0) ∙ zero-words (drop k l) h (i - k)
+
+module _ (c : Control) (m : Lent) where
+  fitting : faultIn c m ≡ 0 → Sized (numbersOf c) (storeOf c m)
+  fitting e = let fit = no-fault c _ _ _ _ e in let r = fit .rooms in record {
+    table-size = elim [ table-0 ↦ length-readMany cellForm (c .r) (m .table0) | table-1 ↦ length-readMany cellForm (c .r) (m .table1) ];
+    queue-fits = omega (arith, length-readMany entryForm (c .«queue_len») (m .queue));
+    detector-fits = omega (arith, length-readMany pairForm (c .«detector_len») (m .detector));
+  }
+
+  passed : faultIn c m ≡ 0 → passes c m ≡ true → SoundIn c m
+  unfolding soundIn
+  passed e h =
+      let t = accepted-tests (inRange c) (sizedIn c m) (filled c) (unfold faultOf in e) in
+      let d = both (isSound (numbersOf c) (storeOf c m) && allZero (drop (3 * c .«queue_len») (m .queue))) (allZero (drop (2 * c .«detector_len») (m .detector))) h in
+      let q = both (isSound (numbersOf c) (storeOf c m)) (allZero (drop (3 * c .«queue_len») (m .queue))) (d .0) in
+      record {
+        in-range = t .0;
+        buffers = t .1;
+        sound = record { in-range = own-ranges c (t .0); contents = rules-check-is-exact (numbersOf c) (storeOf c m) (fitting e) .0 (q .0) };
+        queue-zeros = past _ (m .queue) (q .1);
+        detector-zeros = past _ (m .detector) (d .1);
+      }
+
+  passing : SoundIn c m → passes c m ≡ true
+  unfolding soundIn
+  passing s =
+      let is : isSound (numbersOf c) (storeOf c m) ≡ true = rules-check-is-exact (numbersOf c) (storeOf c m) (fitting (no-faults c m s)) .1 (contents c m s) in
+      let q : allZero (drop (3 * c .«queue_len») (m .queue)) ≡ true = all-zero _ (λ i. getD-drop (3 * c .«queue_len») (m .queue) i 0 ∙ s .queue-zeros _ (omega arith)) in
+      let d : allZero (drop (2 * c .«detector_len») (m .detector)) ≡ true = all-zero _ (λ i. getD-drop (2 * c .«detector_len») (m .detector) i 0 ∙ s .detector-zeros _ (omega arith)) in
+      and-eq-true-iff (isSound (numbersOf c) (storeOf c m) && allZero (drop (3 * c .«queue_len») (m .queue))) (allZero (drop (2 * c .«detector_len») (m .detector))) .1
+      (and-eq-true-iff (isSound (numbersOf c) (storeOf c m)) (allZero (drop (3 * c .«queue_len») (m .queue))) .1 (is, q), d)
+
+  accepted-is-sound : checked c m .answer .number ≡ 0 → SoundIn c m
+  unfolding checked
+  accepted-is-sound h = go (ℕ-discrete (faultIn c m) 0)
+    where
+      tested : faultIn c m ≡ 0 → (b : Bool) → passes c m ≡ b → checking c m .answer .number ≡ 0 → SoundIn c m
+      tested e true t n = passed e t
+      tested e false t n = absurd (let z = ap (λ (o : Outcome). o .answer .number) (check-refuses c m t) ∙ n in omega arith)
+
+      go : Dec (faultIn c m ≡ 0) → SoundIn c m
+      go (yes e) = tested e (passes c m) refl (ap (λ (o : Outcome). o .answer .number) (sym (goes-on c m (checking c m) e)) ∙ h)
+      go (no d) = absurd (d (ap (λ (o : Outcome). o .answer .number) (keeps-all c m (checking c m) (faultIn c m) refl d) ∙ h))
+
+  sound-is-accepted : SoundIn c m → checked c m .answer .number ≡ 0
+  unfolding checked
+  sound-is-accepted s = ap (λ (o : Outcome). o .answer .number) (goes-on c m (checking c m) (no-faults c m s) ∙ sym (check-accepts c m (passing s)))
+
+pub check-is-exact : CheckIsExact
+check-is-exact c m = (accepted-is-sound c m, sound-is-accepted c m)
