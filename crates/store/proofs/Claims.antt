@@ -2,6 +2,7 @@
 use Rattle.store.specs.Claims.{Claims}
 use Rattle.store.proofs.Written.{open-is-sound}
 use Rattle.store.proofs.Simulation.{call-keeps-sound}
+use Rattle.store.proofs.Bound.{one-outcome}
 use Rattle.store.proofs.Checking.{check-is-exact}
 use Rattle.store.proofs.Demand1.{call-refusals-change-nothing, open-refusals-give-zeros, calls-are-limited}
 use Rattle.store.proofs.Demand2.{demand-2}
@@ -9,6 +10,7 @@ use Rattle.store.proofs.Demand3.{demand-3, demand-3-converse}
 
 pub claims : Claims
 claims = record {
+  one-outcome = one-outcome;
   open-is-sound = open-is-sound;
   call-keeps-sound = call-keeps-sound;
   check-is-exact = check-is-exact;

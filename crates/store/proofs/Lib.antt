@@ -5,6 +5,7 @@ pub mod Opening
 pub mod Searching
 pub mod Defining
 pub mod Removing
+pub mod Bound
 pub mod Demand1
 pub mod Written
 pub mod Putting

@@ -1,10 +1,12 @@
 -- All that is claimed of the calls beside their contracts, on one page. `proofs/Claims.antt` proves it. Assumes nothing.
 use Rattle.store.specs.Sound.{OpenIsSound, CallKeepsSound, CheckIsExact}
+use Rattle.store.specs.Bound.{OneOutcome}
 use Rattle.store.specs.Demand1.{CallRefusalsChangeNothing, OpenRefusalsGiveZeros, CallsAreLimited}
 use Rattle.store.specs.Demand2.{Demand2}
 use Rattle.store.specs.Demand3.{Demand3, Demand3Converse}
 
 pub record Claims : Type 0 where
+  pub one-outcome : OneOutcome
   pub open-is-sound : OpenIsSound
   pub call-keeps-sound : CallKeepsSound
   pub check-is-exact : CheckIsExact

@@ -3,6 +3,7 @@ pub mod Refusals
 pub mod Calls
 pub mod Inner
 pub mod Sound
+pub mod Bound
 pub mod Demand1
 pub mod Demand2
 pub mod Demand3
