@@ -1,5 +1,6 @@
 -- `store::Control::run_out` meets its contract: the words of a run are its outcome. Assumes nothing.
-use mathlib.Core.Path.{sym, _∙_, subst}
+use mathlib.Core.Path.{sym, subst}
+use native.Mathlib.Omega.{arith}
 use Rattle.store.specs.Memory.{lent, functionsOf}
 use Rattle.store.proofs.Lying.{tables-ready, runs-with, ran-out}
 use Rattle.numbers.specs.declared.Functions.{Functions}
@@ -21,7 +22,7 @@ run-steps-requires c κs =
     let a = s .args in
     let m = lent (a .t0 .now) (a .t1 .now) (a .queue .now) (a .detector .now) in
     let fit = s .pre .1 .0 in
-    (s .pre .0, (subst (λ (f : Functions). TablesReady (f .r) (a .t0 .now) (a .t1 .now)) (sym (c .before .before .before .before .functions .ensures)) (tables-ready (a .self) m fit), (fit .rooms .detector, s .pre .1 .1)))
+    (omega (arith, s .pre .0), (subst (λ (f : Functions). TablesReady (f .r) (a .t0 .now) (a .t1 .now)) (sym (c .before .before .before .before .functions .ensures)) (tables-ready (a .self) m fit), (fit .rooms .detector, s .pre .1 .1)))
 
 same-length : tie.Need-same-length
 same-length c = search needs
