@@ -17,7 +17,7 @@ use Rattle.rules.specs.Check.{isHeld, waitsIn, entryOk, queueOk, marksOk}
 use Rattle.layout.specs.Forms.{entryForm, pairForm, readMany}
 use Rattle.layout.specs.Places.{FirstPlace}
 use Rattle.layout.proofs.Forms.{read-from, read-none}
-use Rattle.steps.specs.Shape.{cellsIn}
+use Rattle.kinds.specs.Shape.{cellsIn}
 
 -- whether a place is in the queue
 abbrev inQueue : Place → Bool

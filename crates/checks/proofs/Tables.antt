@@ -18,7 +18,8 @@ use Rattle.rules.specs.Store.{Table, other, meant, Cell, Tables, cellAt, Number
 use Rattle.rules.specs.Check.{isHeld, cellOk, cellsOk}
 use Rattle.layout.specs.Forms.{cellForm, readMany}
 use Rattle.layout.proofs.Forms.{read-from, read-none}
-use Rattle.steps.specs.Shape.{cellsIn, withTable, homesOf}
+use Rattle.kinds.specs.Shape.{cellsIn}
+use Rattle.steps.specs.Shape.{withTable, homesOf}
 use Rattle.steps.proofs.InTable.{cell-in, cell-read}
 
 -- the cell at place i

@@ -12,7 +12,7 @@ use lib.ListN.{length, getD, drop}
 use lib.Seq.{drop-cons}
 use Rattle.rules.specs.Store.{table-0, table-1, Tables, Numbers}
 use Rattle.rules.specs.Check.{cellsOk, queueOk, marksOk, isSound}
-use Rattle.steps.specs.Shape.{cellsIn, entriesIn, pairsIn}
+use Rattle.kinds.specs.Shape.{cellsIn, entriesIn, pairsIn}
 use Rattle.checks.specs.Zeros.{allZero, soundIn}
 
 module _ (ws : List ℕ) (i : ℕ) where

@@ -10,7 +10,8 @@ ghost use Rattle.rules.specs.Store.{meant, Cell, Numbers};
 ghost use Rattle.rules.specs.Check.{isHeld, cellOk, cellsOk, waitsIn, entryOk, queueOk, marksOk};
 ghost use Rattle.rules.specs.Step.{isMarked};
 ghost use Rattle.layout.specs.Forms.{entryForm, pairForm, readMany};
-ghost use Rattle.steps.specs.Shape.{cellsIn, entriesIn, pairsIn, withTable, homesOf, TablesReady};
+ghost use Rattle.kinds.specs.Shape.{cellsIn, entriesIn, pairsIn};
+ghost use Rattle.steps.specs.Shape.{withTable, homesOf, TablesReady};
 ghost use Rattle.checks.specs.Zeros.{allZero, soundIn};
 use numbers::Functions;
 

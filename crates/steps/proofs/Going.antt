@@ -14,8 +14,9 @@ use Rattle.numbers.specs.declared.Functions.{Functions}
 use Rattle.layout.specs.Forms.{entryForm, pairForm, readMany, packed}
 use Rattle.layout.proofs.Forms.{entry-lawful, pair-lawful, length-readMany}
 use Rattle.layout.proofs.Packed.{length-packed, read-packed}
-use Rattle.steps.specs.declared.Turn.{Turn}
-use Rattle.steps.specs.Shape.{Ready, TablesReady, StepsWith, Holds, Follows, Runs, homesOf, storeIn, entriesIn, pairsIn}
+use Rattle.kinds.specs.declared.Turn.{Turn}
+use Rattle.kinds.specs.Shape.{Ready, entriesIn, pairsIn}
+use Rattle.steps.specs.Shape.{TablesReady, StepsWith, Holds, Follows, Runs, homesOf, storeIn}
 
 -- no step makes the queue longer, and the detector stays within its room
 module _ (n : Numbers) (s : Store) where

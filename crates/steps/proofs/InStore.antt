@@ -12,8 +12,9 @@ use Rattle.rules.specs.Step.{Stepped, stepAt, stepFrom, step}
 use Rattle.layout.specs.Forms.{entryForm, readMany}
 use Rattle.numbers.specs.declared.Functions.{Functions}
 use Rattle.numbers.specs.Homes.{home0, home1}
-use Rattle.steps.specs.declared.Turn.{Turn}
-use Rattle.steps.specs.Shape.{cellsIn, entriesIn, pairsIn, entry, withTable, After, homesOf, StepsWith, storeIn, Holds, Follows}
+use Rattle.kinds.specs.declared.Turn.{Turn}
+use Rattle.kinds.specs.Shape.{cellsIn, entriesIn, pairsIn, entry}
+use Rattle.steps.specs.Shape.{withTable, After, homesOf, StepsWith, storeIn, Holds, Follows}
 
 -- the front entry and the rest
 front : (ql : ℕ) (q : List ℕ) → 0 < ql → entriesIn ql q ≡ entry (getD q 0 0) (getD q 1 0) (getD q 2 0) ∷ drop 1 (entriesIn ql q)

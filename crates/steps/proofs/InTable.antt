@@ -16,8 +16,9 @@ use Rattle.rules.proofs.Steps.{by-kind}
 use Rattle.layout.specs.Forms.{cellForm, entryForm, pairForm, readMany, packed}
 use Rattle.layout.proofs.Forms.{cell-lawful, entry-lawful, pair-lawful, length-readMany, read-at, read-set}
 use Rattle.layout.proofs.Ready.{rest-count}
-use Rattle.steps.specs.declared.Turn.{Turn}
-use Rattle.steps.specs.Shape.{cellsIn, entriesIn, pairsIn, entry, pair, turn, Ready, Landed, Aside, Swapped, withTable, tablesWith, After}
+use Rattle.kinds.specs.declared.Turn.{Turn}
+use Rattle.kinds.specs.Shape.{cellsIn, entriesIn, pairsIn, entry, pair, turn, Ready, Landed, Aside, Swapped}
+use Rattle.steps.specs.Shape.{withTable, tablesWith, After}
 
 -- a cell of the table in hand
 pub cell-in : (t : Table) (cs o : List Cell) (i : ℕ) → cellAt (withTable t cs o) t i ≡ getD cs i freeCell

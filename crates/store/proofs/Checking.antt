@@ -10,18 +10,22 @@ use borrow.Author.Tests.{eqb-true, eq-eqb}
 use lib.Dec.{eqb, leb}
 use lib.ListN.{length, getD, drop}
 use lib.Seq.{getD-drop}
-use Rattle.rules.specs.Store.{Table, table-0, table-1, tableOf}
+use Rattle.rules.specs.Store.{Table, table-0, table-1, tableOf, Numbers}
 use Rattle.rules.specs.Calls.{answer}
 use Rattle.rules.specs.Check.{isSound, Sized}
 use Rattle.rules.proofs.Check.{check-is-exact as rules-check-is-exact}
 use Rattle.layout.specs.Forms.{cellForm, entryForm, pairForm}
 use Rattle.layout.proofs.Forms.{length-readMany}
+use Rattle.numbers.specs.declared.Functions.{Functions}
+use Rattle.steps.specs.Shape.{homesOf}
 use Rattle.checks.specs.Zeros.{allZero, soundIn}
 use Rattle.store.specs.declared.Control.{Control}
-use Rattle.store.specs.Memory.{Lent, numbersOf, storeOf}
-use Rattle.store.specs.Refusals.{inRange, sized, filled, Outcome, keeps}
+use Rattle.store.specs.declared.Answer.{Answer}
+use Rattle.layout.specs.Memory.{Lent}
+use Rattle.store.specs.Memory.{functionsOf, numbersOf, storeOf}
+use Rattle.store.specs.Refusals.{inRange, sized, filled, Outcome, outcome, answered, keeps, unlessFault}
 use Rattle.store.specs.Calls.{checking, checked}
-use Rattle.store.specs.Inner.{faultOf, FitIn}
+use Rattle.store.specs.Inner.{faultOf}
 use Rattle.store.specs.Sound.{sizedIn, SoundIn, CheckIsExact}
 use Rattle.store.proofs.Faults.{both, accepted-tests, no-fault, faultIn, goes-on, keeps-all}
 use Rattle.store.proofs.Written.{own-ranges}
@@ -38,6 +42,21 @@ check-accepts c m h = simp h
 pub check-refuses : (c : Control) (m : Lent) → passes c m ≡ false → keeps c m (answer 9 0 0 0) ≡ checking c m
 unfolding checking
 check-refuses c m h = simp h
+
+-- what the code's test of the whole store answers is that test
+pub tested-by : (c : Control) (m : Lent) {f : Functions} {b : Bool} → f ≡ functionsOf c
+    → ((n : Numbers) → n .home ≡ homesOf f → b ≡ soundIn n (f .r) (c .«queue_len») (c .«detector_len») (m .table0) (m .table1) (m .queue) (m .detector)) → b ≡ passes c m
+tested-by c m functions is =
+    is (numbersOf c) (λ i. homesOf (sym functions i))
+    ∙ (λ i. soundIn (numbersOf c) (functions i .r) (c .«queue_len») (c .«detector_len») (m .table0) (m .table1) (m .queue) (m .detector))
+
+pub checks-by : (c : Control) (m : Lent) {k : ℕ} {b : Bool} {a : Answer} → k ≡ faultIn c m → k ≡ 0 → b ≡ passes c m → a ≡ answered c (answer (cond b 0 9) 0 0 0)
+    → outcome m a ≡ unlessFault c m (checking c m)
+checks-by c m {b = b} test none passed is = ap (outcome m) is ∙ go b passed ∙ sym (goes-on c m (checking c m) (sym test ∙ none))
+  where
+    go : (b : Bool) → b ≡ passes c m → keeps c m (answer (cond b 0 9) 0 0 0) ≡ checking c m
+    go true e = check-accepts c m (sym e)
+    go false e = check-refuses c m (sym e)
 
 -- words that are all zero
 zero-words : (l : List ℕ) → allZero l ≡ true → (i : ℕ) → getD l i 0 ≡ 0

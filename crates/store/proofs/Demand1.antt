@@ -12,9 +12,11 @@ use Rattle.rules.specs.Keeps.{isAccepted}
 use Rattle.rules.specs.Search.{search}
 use Rattle.rules.proofs.Limits.{refusals-change-nothing, calls-are-limited as rules-are-limited}
 use Rattle.store.specs.declared.Control.{Control}
-use Rattle.store.specs.Memory.{Lent, numbersOf, storeOf, wordsOf, recordOf, withLens}
+use Rattle.layout.specs.Memory.{Lent}
+use Rattle.store.specs.Memory.{numbersOf, storeOf, wordsOf, recordOf, withLens}
 use Rattle.store.specs.Refusals.{inRange, sized, filled, Outcome, keeps, refuseIf, unlessFault}
-use Rattle.store.specs.Calls.{zeros, opened, found, leaves, defined, putValue, changing, changed, removed, settled, does}
+use Rattle.store.specs.Calls.{zeros, opened, found, leaves, defined, changing, changed, removed, settled, does}
+use Rattle.changing.specs.Change.{putValue}
 use Rattle.store.specs.Sound.{sizedIn}
 use Rattle.store.specs.Demand1.{Untouched, CallRefusalsChangeNothing, OpenRefusalsGiveZeros, Limited, CallsAreLimited}
 use Rattle.store.specs.Demand2.{plain}

@@ -15,7 +15,8 @@ use Rattle.rules.proofs.Open.{fresh-sound, fresh-lookup}
 use Rattle.rules.proofs.CallsKept.{call-changes-lookup}
 use Rattle.rules.proofs.Demand2.{found as finds-told, places}
 use Rattle.store.specs.declared.Control.{Control}
-use Rattle.store.specs.Memory.{Lent, numbersOf, storeOf, recordOf}
+use Rattle.layout.specs.Memory.{Lent}
+use Rattle.store.specs.Memory.{numbersOf, storeOf, recordOf}
 use Rattle.store.specs.Refusals.{Outcome, answered, keeps}
 use Rattle.store.specs.Calls.{opened, found, does}
 use Rattle.store.specs.Sound.{SoundIn}

@@ -11,9 +11,11 @@ use borrow.Author.Tests.{leb-true, eqb-true}
 use Rattle.numbers.specs.Ranges.{cellsInRange, queueRoomInRange, detectorRoomInRange, stepLimitInRange, multiplierInRange, addendInRange}
 use Rattle.rules.specs.Calls.{answer}
 use Rattle.store.specs.declared.Control.{Control}
-use Rattle.store.specs.Memory.{Lent}
+use Rattle.layout.specs.Memory.{Lent}
 use Rattle.store.specs.Refusals.{inRange, sized, filled, Outcome, keeps, refuseIf, unlessFault}
-use Rattle.store.specs.Inner.{faultOf, Rooms, Fit, FitIn}
+use Rattle.finding.specs.Inner.{Fit}
+use Rattle.store.specs.Memory.{functionsOf, roomsOf}
+use Rattle.store.specs.Inner.{faultOf}
 
 pub both : (a b : Bool) → (a && b) ≡ true → (a ≡ true) × (b ≡ true)
 both a b e = and-eq-true-iff a b .0 e
@@ -66,7 +68,7 @@ accepted-tests true true false e = absurd (omega arith)
 accepted-tests true false c e = absurd (omega arith)
 accepted-tests false b c e = absurd (omega arith)
 
-pub no-fault : (c : Control) (n0 n1 nq nd : ℕ) → faultOf c n0 n1 nq nd ≡ 0 → Fit c n0 n1 nq nd
+pub no-fault : (c : Control) (n0 n1 nq nd : ℕ) → faultOf c n0 n1 nq nd ≡ 0 → Fit (functionsOf c) (roomsOf c) n0 n1 nq nd
 unfolding faultOf filled
 no-fault c n0 n1 nq nd h =
     let t = accepted-tests (inRange c) (sized c n0 n1 nq nd) (leb (c .«queue_len») (c .«queue_room») && leb (c .«detector_len») (c .«detector_room»)) h in

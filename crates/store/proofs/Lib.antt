@@ -1,10 +1,6 @@
 pub mod Faults
-pub mod Lying
-pub mod Settling
+pub mod Carrying
 pub mod Opening
-pub mod Searching
-pub mod Defining
-pub mod Removing
 pub mod Bound
 pub mod Demand1
 pub mod Written

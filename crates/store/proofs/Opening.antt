@@ -1,9 +1,11 @@
 -- Open: its refusals, and that zeros are the words of a store just opened. Assumes nothing.
 use Prim.Native.Nat.{ℕ, zero, suc, _+_, _-_, _*_, _≤_}
 use mathlib.Core.Path.{_≡_, refl, sym, _∙_, ap}
-use mathlib.Core.Bool.{Bool, true, false}
+use mathlib.Core.Bool.{Bool, true, false, cond, not, true≢false}
 use mathlib.Core.List.{List, [], _∷_, _++_}
+use mathlib.Core.Logic.{_≢_}
 use native.Mathlib.Omega.{arith}
+use borrow.Author.Tests.{le-leb}
 use native.Mathlib.Nat.{sub-zero}
 use lib.ListN.{length, replicate}
 use Rattle.words.specs.Words.{cleared, padTo}
@@ -13,22 +15,32 @@ use Rattle.rules.specs.Calls.{answer}
 use Rattle.layout.specs.Forms.{cellForm, entryForm, pairForm, writeMany, packed}
 use Rattle.store.specs.declared.Control.{Control}
 use Rattle.store.specs.declared.Answer.{Answer}
-use Rattle.store.specs.Memory.{Lent, lent, numbersOf, wordsOf, withLens}
-use Rattle.store.specs.Refusals.{inRange, sized, outcome, answered, keeps}
-use Rattle.store.specs.Calls.{zeros, opened}
-use Rattle.store.proofs.Faults.{Sizes, sizes}
-use Rattle.store.proofs.Lying.{as-one}
+use Rattle.layout.specs.Memory.{wordsIn, Lent, lent}
+use Rattle.store.specs.Memory.{numbersOf, wordsOf, withLens}
+use Rattle.store.specs.Refusals.{inRange, sized, filled, outcome, answered, keeps}
+use Rattle.store.specs.Calls.{zeros, newRecord, opened}
+use Rattle.store.specs.Inner.{faultOf}
+use Rattle.store.proofs.Faults.{Sizes, sizes, accepted-tests, faultIn}
 
 abbrev sizedIn : Control → Lent → Bool
 sizedIn c m = sized c (length (m .table0)) (length (m .table1)) (length (m .queue)) (length (m .detector))
 
-pub open-refuses-1 : (c : Control) (m : Lent) → inRange c ≡ false → keeps zeros m (answer 1 0 0 0) ≡ opened c m
-unfolding opened
-open-refuses-1 c m h = simp h
+-- a new record's lengths are within its rooms
+pub new-filled : (r Q D L a0 b0 a1 b1 : ℕ) → filled (newRecord r Q D L a0 b0 a1 b1) ≡ true
+unfolding filled
+new-filled r Q D L a0 b0 a1 b1 = rw (le-leb 0 Q (omega arith), le-leb 0 D (omega arith))
 
-pub open-refuses-2 : (c : Control) (m : Lent) → inRange c ≡ true → sizedIn c m ≡ false → keeps zeros m (answer 2 0 0 0) ≡ opened c m
-unfolding opened
-open-refuses-2 c m h k = simp (h, k)
+pub open-refuses : (c : Control) (m : Lent) (k : ℕ) → filled c ≡ true → k ≡ faultIn c m → k ≢ 0 → keeps zeros m (answer k 0 0 0) ≡ opened c m
+unfolding opened faultOf
+open-refuses c m k full e nz = go (inRange c) (sizedIn c m) (filled c) full e
+  where
+    go : (a b f : Bool) → f ≡ true → k ≡ cond a (cond b (cond f 0 3) 2) 1
+        → keeps zeros m (answer k 0 0 0)
+        ≡ cond (not a) (keeps zeros m (answer 1 0 0 0)) (cond (not b) (keeps zeros m (answer 2 0 0 0)) (keeps (withLens c 0 0) (wordsOf c (fresh (numbersOf c))) (answer 0 0 0 0)))
+    go true true true g e = absurd (nz e)
+    go true true false g e = absurd (true≢false (sym g))
+    go true false f g e = ap (λ j. keeps zeros m (answer j 0 0 0)) e
+    go false b f g e = ap (λ j. keeps zeros m (answer j 0 0 0)) e
 
 -- all words of a buffer cleared
 all-cleared : (n : ℕ) (ws : List ℕ) → length ws ≡ n → cleared 0 (length ws) ws ≡ padTo n []
@@ -44,10 +56,16 @@ free-words : (r : ℕ) → padTo (2 * r) [] ≡ writeMany cellForm (replicate r 
 unfolding padTo
 free-words r = ap (λ k. replicate k 0) (sub-zero (2 * r)) ∙ zero-words r
 
-pub open-accepts : (c : Control) (t0 t1 q d : List ℕ) → inRange c ≡ true → sizedIn c (lent t0 t1 q d) ≡ true
-    → outcome (lent (cleared 0 (length t0) t0) (cleared 0 (length t1) t1) (cleared 0 (length q) q) (cleared 0 (length d) d)) (answered (withLens c 0 0) (answer 0 0 0 0)) ≡ opened c (lent t0 t1 q d)
-unfolding opened wordsOf fresh packed writeMany
-open-accepts c t0 t1 q d h k =
-    let z : Sizes c (length t0) (length t1) (length q) (length d) = sizes c (length t0) (length t1) (length q) (length d) k in
-    as-one (all-cleared _ t0 (z .first) ∙ free-words (c .r)) (all-cleared _ t1 (z .second) ∙ free-words (c .r)) (all-cleared _ q (z .queue)) (all-cleared _ d (z .detector)) refl
-    ∙ simp (h, k)
+-- an outcome by its five parts
+as-one : {t0 t1 q d u0 u1 p e : List ℕ} {a b : Answer} → t0 ≡ u0 → t1 ≡ u1 → q ≡ p → d ≡ e → a ≡ b → outcome (lent t0 t1 q d) a ≡ outcome (lent u0 u1 p e) b
+as-one e0 e1 e2 e3 e4 = λ i. outcome (lent (e0 i) (e1 i) (e2 i) (e3 i)) (e4 i)
+
+pub open-accepts : (c : Control) (t0 t1 q d : List ℕ) {u0 u1 p e : List ℕ} {a : Answer} → faultIn c (lent t0 t1 q d) ≡ 0
+    → u0 ≡ cleared 0 (length t0) t0 → u1 ≡ cleared 0 (length t1) t1 → p ≡ cleared 0 (length q) q → e ≡ cleared 0 (length d) d
+    → a ≡ answered (withLens c 0 0) (answer 0 0 0 0) → outcome (lent u0 u1 p e) a ≡ opened c (lent t0 t1 q d)
+unfolding opened wordsIn fresh packed writeMany
+open-accepts c t0 t1 q d h e0 e1 eq ed ea =
+    let t = accepted-tests (inRange c) (sizedIn c (lent t0 t1 q d)) (filled c) (unfold faultOf in h) in
+    let z : Sizes c (length t0) (length t1) (length q) (length d) = sizes c (length t0) (length t1) (length q) (length d) (t .1) in
+    as-one (e0 ∙ all-cleared _ t0 (z .first) ∙ free-words (c .r)) (e1 ∙ all-cleared _ t1 (z .second) ∙ free-words (c .r)) (eq ∙ all-cleared _ q (z .queue)) (ed ∙ all-cleared _ d (z .detector)) ea
+    ∙ simp (t .0, t .1)

@@ -12,10 +12,11 @@ use Rattle.rules.specs.Search.{Place, inTable, waitingAt, nowhere, noEntry, ent
 use Rattle.rules.specs.Calls.{withEntryValue, withValue}
 use Rattle.layout.specs.Forms.{cellForm, entryForm}
 use Rattle.layout.proofs.Forms.{cell-lawful, entry-lawful, read-at, read-set}
-use Rattle.steps.specs.Shape.{cellsIn, entriesIn}
+use Rattle.kinds.specs.Shape.{cellsIn, entriesIn}
 use Rattle.store.specs.declared.Control.{Control}
-use Rattle.store.specs.Memory.{Lent, storeOf}
-use Rattle.store.specs.Calls.{putValue}
+use Rattle.layout.specs.Memory.{Lent}
+use Rattle.store.specs.Memory.{storeOf}
+use Rattle.changing.specs.Change.{putValue}
 use Rattle.store.specs.Sound.{sizedIn}
 use Rattle.store.proofs.Faults.{Sizes}
 

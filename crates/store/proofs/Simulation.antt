@@ -21,10 +21,12 @@ use Rattle.rules.proofs.Limits.{refusals-change-nothing}
 use Rattle.rules.proofs.Places.{entry-within}
 use Rattle.rules.proofs.CallsKept.{by-found, call-keeps-sound as rules-keep-sound}
 use Rattle.store.specs.declared.Control.{Control}
-use Rattle.store.specs.Memory.{Lent, functionsOf, numbersOf, storeOf, wordsOf, recordOf}
+use Rattle.layout.specs.Memory.{Lent}
+use Rattle.store.specs.Memory.{functionsOf, numbersOf, storeOf, wordsOf, recordOf}
 use Rattle.store.specs.Refusals.{filled, Outcome, outcome, answered, keeps}
 use Rattle.store.specs.Inner.{faultOf}
-use Rattle.store.specs.Calls.{leaves, putValue, changing, does}
+use Rattle.store.specs.Calls.{leaves, changing, does}
+use Rattle.changing.specs.Change.{putValue}
 use Rattle.store.specs.Sound.{SoundIn, CallKeepsSound}
 use Rattle.store.specs.Demand2.{plain}
 use Rattle.store.proofs.Faults.{ranges, Sizes, sizes, faultIn, goes-on}

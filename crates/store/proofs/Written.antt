@@ -15,6 +15,7 @@ use Rattle.numbers.specs.Ranges.{cellsInRange, queueRoomInRange, detectorRoomIn
 use Rattle.layout.specs.Forms.{Form, cellForm, entryForm, pairForm, readMany, writeMany, packed}
 use Rattle.layout.proofs.Forms.{Lawful, cell-lawful, entry-lawful, pair-lawful, length-writeMany, read-all}
 use Rattle.layout.proofs.Packed.{length-packed, read-packed}
+use Rattle.layout.specs.Memory.{wordsIn}
 use Rattle.store.specs.declared.Control.{Control}
 use Rattle.store.specs.Memory.{numbersOf, storeOf, wordsOf, recordOf}
 use Rattle.store.specs.Refusals.{inRange, sized}
@@ -48,13 +49,13 @@ module _ (c : Control) (s : Store) (contents : SoundContents (numbersOf c) s) wh
 
   -- what is written is read back
   pub reads-back : storeOf (recordOf c s) (wordsOf c s) ≡ s
-  unfolding wordsOf recordOf
+  unfolding wordsIn recordOf
   reads-back = λ i. store
       (record { table0 = table-back (s .tables .table0) (contents .table-size table-0) i; table1 = table-back (s .tables .table1) (contents .table-size table-1) i })
       (read-packed entryForm entry-lawful (3 * c .«queue_room») (s .waiting) i) (read-packed pairForm pair-lawful (2 * c .«detector_room») (s .marked) i)
 
   pub written-sized : sizedIn (recordOf c s) (wordsOf c s) ≡ true
-  unfolding wordsOf recordOf
+  unfolding wordsIn recordOf
   written-sized = fits-sized (recordOf c s) _ _ _ _
       (length-writeMany cellForm cell-lawful (s .tables .table0) ∙ ap (λ k. 2 * k) (contents .table-size table-0))
       (length-writeMany cellForm cell-lawful (s .tables .table1) ∙ ap (λ k. 2 * k) (contents .table-size table-1))
@@ -63,7 +64,7 @@ module _ (c : Control) (s : Store) (contents : SoundContents (numbersOf c) s) wh
 
   -- the words and the record of a sound store are sound
   pub written-sound : inRange c ≡ true → InRange (numbersOf c) → SoundIn (recordOf c s) (wordsOf c s)
-  unfolding wordsOf recordOf
+  unfolding wordsIn recordOf
   written-sound ranges range = record {
     in-range = unfold inRange in ranges;
     buffers = written-sized;

@@ -1,18 +1,18 @@
 -- Document 01, "The calls", over control records and lent words: one definition for the whole outcome of each call, refusals included. Assumes
 -- nothing.
-use Prim.Native.Nat.{ℕ, _+_, _*_}
-use mathlib.Core.Bool.{Bool, cond, not, _&&_}
-use mathlib.Core.List.{List, [], _∷_}
-use lib.Dec.{eqb}
-use lib.ListN.{length, set, drop}
-use Rattle.rules.specs.Store.{Table, table-0, table-1, Store, fresh}
-use Rattle.rules.specs.Search.{Place, inTable, waitingAt, nowhere, search}
+use Prim.Native.Nat.{ℕ}
+use mathlib.Core.Bool.{cond, not}
+use lib.ListN.{length}
+use Rattle.rules.specs.Store.{fresh}
+use Rattle.rules.specs.Search.{search}
 use Rattle.rules.specs.Calls.{Answer as RulesAnswer, answer, Outcome as RulesOutcome, find, define, change, remove, settle, Call, Find, Define, Change, Remove, Settle}
 use Rattle.rules.specs.Keeps.{isAccepted}
+use Rattle.layout.specs.Memory.{Lent}
+use Rattle.changing.specs.Change.{putValue}
 use Rattle.checks.specs.Zeros.{soundIn}
 use Rattle.store.specs.declared.Control.{Control}
 use Rattle.store.specs.declared.Answer.{Answer}
-use Rattle.store.specs.Memory.{Lent, lent, numbersOf, storeOf, wordsOf, recordOf, withLens}
+use Rattle.store.specs.Memory.{numbersOf, storeOf, wordsOf, recordOf, withLens}
 use Rattle.store.specs.Refusals.{inRange, sized, Outcome, outcome, answered, keeps, refuseIf, unlessFault}
 
 -- a record of zeros
@@ -43,14 +43,7 @@ leaves c m o = cond (isAccepted (o .answer)) (outcome (wordsOf c (o .store)) (an
 unfoldable pub defined : Control → ℕ → ℕ → Lent → Outcome
 defined c x v m = unlessFault c m (leaves c m (define (numbersOf c) x v (storeOf c m)))
 
--- the words with another value at a place: places past the lengths stay as they are
-abbrev pub putValue : Place → ℕ → Lent → Lent
-putValue (inTable table-0 i) v m = lent (set (m .table0) (2 * i + 1) v) (m .table1) (m .queue) (m .detector)
-putValue (inTable table-1 i) v m = lent (m .table0) (set (m .table1) (2 * i + 1) v) (m .queue) (m .detector)
-putValue (waitingAt j) v m = lent (m .table0) (m .table1) (set (m .queue) (3 * j + 1) v) (m .detector)
-putValue nowhere v m = m
-
--- "Change: the value at the place that find would use is replaced", if the rules accept it
+-- "Change: the value at the place that find would use is replaced", if the rules accept it; all other words stay as they are
 unfoldable pub changing : Control → ℕ → ℕ → Lent → RulesAnswer → Outcome
 changing c x v m a = cond (isAccepted a) (keeps c (putValue (search (numbersOf c) x (storeOf c m)) v m) a) (keeps c m a)
 

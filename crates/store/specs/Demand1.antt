@@ -5,7 +5,7 @@ use mathlib.Core.Path.{_≡_}
 use mathlib.Core.Logic.{_≢_}
 use Rattle.rules.specs.Calls.{Call}
 use Rattle.store.specs.declared.Control.{Control}
-use Rattle.store.specs.Memory.{Lent}
+use Rattle.layout.specs.Memory.{Lent}
 use Rattle.store.specs.Refusals.{Outcome}
 use Rattle.store.specs.Calls.{zeros, opened, does}
 

@@ -12,7 +12,8 @@ use Rattle.rules.specs.Sound.{IsGood}
 use Rattle.rules.specs.Demand2.{told, Lies}
 use Rattle.store.specs.declared.Control.{Control}
 use Rattle.store.specs.declared.Answer.{Answer}
-use Rattle.store.specs.Memory.{Lent, storeOf}
+use Rattle.layout.specs.Memory.{Lent}
+use Rattle.store.specs.Memory.{storeOf}
 use Rattle.store.specs.Refusals.{Outcome, answered}
 use Rattle.store.specs.Calls.{opened, found, does}
 

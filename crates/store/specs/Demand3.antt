@@ -8,7 +8,8 @@ use Rattle.rules.specs.Sound.{present}
 use Rattle.rules.specs.Groups.{IsGroup, cellsOf}
 use Rattle.rules.specs.Demand3.{granted, GroupsFit}
 use Rattle.store.specs.declared.Control.{Control}
-use Rattle.store.specs.Memory.{Lent, numbersOf, storeOf}
+use Rattle.layout.specs.Memory.{Lent}
+use Rattle.store.specs.Memory.{numbersOf, storeOf}
 use Rattle.store.specs.Calls.{settled}
 use Rattle.store.specs.Sound.{SoundIn}
 use Rattle.store.specs.Demand2.{Held, given}

@@ -7,7 +7,7 @@ use Rattle.numbers.specs.Ranges.{cellsInRange, queueRoomInRange, detectorRoomIn
 use Rattle.rules.specs.Calls.{Answer as RulesAnswer, answer}
 use Rattle.store.specs.declared.Control.{Control}
 use Rattle.store.specs.declared.Answer.{Answer}
-use Rattle.store.specs.Memory.{Lent}
+use Rattle.layout.specs.Memory.{Lent}
 
 -- 1: "r, Q, D, L or a function number out of range"
 unfoldable pub inRange : Control → Bool

@@ -8,7 +8,8 @@ use lib.ListN.{length, getD}
 use Rattle.rules.specs.Sound.{Sound}
 use Rattle.rules.specs.Calls.{Call}
 use Rattle.store.specs.declared.Control.{Control}
-use Rattle.store.specs.Memory.{Lent, numbersOf, storeOf}
+use Rattle.layout.specs.Memory.{Lent}
+use Rattle.store.specs.Memory.{numbersOf, storeOf}
 use Rattle.store.specs.Refusals.{inRange, sized}
 use Rattle.store.specs.Calls.{opened, checked, does}
 

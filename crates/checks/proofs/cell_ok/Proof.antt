@@ -2,7 +2,7 @@
 use mathlib.Core.Path.{sym, _∙_}
 use borrow.Author.Needs.{needs}
 use borrow.Author.Tests.{not-true, not-false}
-use Rattle.steps.specs.Shape.{cellsIn}
+use Rattle.kinds.specs.Shape.{cellsIn}
 use Rattle.checks.proofs.Tables.{free-cell, bad-key, not-home, at-home}
 use Rattle.checks.proofs.cell_ok.Statement.{statement}
 use Rattle.checks.proofs.cell_ok.Tie as tie

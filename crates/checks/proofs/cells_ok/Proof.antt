@@ -7,7 +7,8 @@ use borrow.Author.Needs.{needs}
 use borrow.Author.Tests.{not-true, not-false}
 use Rattle.rules.specs.Store.{meant, Numbers}
 use Rattle.rules.specs.Check.{cellsOk}
-use Rattle.steps.specs.Shape.{cellsIn, withTable, homesOf}
+use Rattle.kinds.specs.Shape.{cellsIn}
+use Rattle.steps.specs.Shape.{withTable, homesOf}
 use Rattle.checks.proofs.Tables.{cellsFrom, cell-bad, cell-good, cells-end}
 use Rattle.checks.proofs.cells_ok.Statement.{statement}
 use Rattle.checks.proofs.cells_ok.Tie as tie

@@ -2,7 +2,7 @@
 use mathlib.Core.Path.{sym, _∙_}
 use borrow.Author.Needs.{needs}
 use borrow.Author.Tests.{not-true, not-false}
-use Rattle.steps.specs.Shape.{cellsIn}
+use Rattle.kinds.specs.Shape.{cellsIn}
 use Rattle.checks.proofs.Queue.{bad-key, bad-side, in-first, in-second, in-no-cell}
 use Rattle.checks.proofs.entry_ok.Statement.{statement}
 use Rattle.checks.proofs.entry_ok.Tie as tie

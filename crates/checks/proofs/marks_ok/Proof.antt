@@ -6,7 +6,7 @@ use native.Mathlib.Nat.{sub-zero}
 use borrow.Author.Needs.{needs}
 use borrow.Author.Tests.{not-true, not-false}
 use Rattle.rules.specs.Check.{marksOk}
-use Rattle.steps.specs.Shape.{pairsIn}
+use Rattle.kinds.specs.Shape.{pairsIn}
 use Rattle.checks.proofs.Queue.{pairsFrom, pair-bad, pair-good, marks-end}
 use Rattle.checks.proofs.marks_ok.Statement.{statement}
 use Rattle.checks.proofs.marks_ok.Tie as tie

@@ -7,7 +7,8 @@ use borrow.Author.Needs.{needs}
 use borrow.Author.Tests.{not-true, not-false}
 use Rattle.rules.specs.Store.{table-0, Numbers}
 use Rattle.rules.specs.Check.{queueOk}
-use Rattle.steps.specs.Shape.{cellsIn, entriesIn, withTable, homesOf}
+use Rattle.kinds.specs.Shape.{cellsIn, entriesIn}
+use Rattle.steps.specs.Shape.{withTable, homesOf}
 use Rattle.checks.proofs.Queue.{entriesFrom, entry-bad, entry-good, queue-end}
 use Rattle.checks.proofs.queue_ok.Statement.{statement}
 use Rattle.checks.proofs.queue_ok.Tie as tie

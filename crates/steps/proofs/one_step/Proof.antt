@@ -3,7 +3,7 @@ use Prim.Native.Nat.{ℕ, _<_}
 use native.Mathlib.Omega.{arith}
 use lib.ListN.{length, getD}
 use Rattle.numbers.proofs.Home.{home0-in-table, home1-in-table}
-use Rattle.steps.specs.Shape.{cellsIn}
+use Rattle.kinds.specs.Shape.{cellsIn}
 use Rattle.steps.proofs.InStore.{first-table, second-table}
 use borrow.Author.Needs.{needs}
 use Rattle.steps.proofs.one_step.Statement.{statement}

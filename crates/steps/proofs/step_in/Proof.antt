@@ -6,10 +6,10 @@ use Rattle.steps.proofs.step_in.Statement.{statement}
 use Rattle.steps.proofs.step_in.Tie as tie
 use Rattle.steps.proofs.step_in.Reads as reads
 use Rattle.steps.proofs.step_in.Lts as lts
-use Rattle.steps.proofs.land.Reads as land-reads
-use Rattle.steps.proofs.must_stop.Reads as must-stop-reads
-use Rattle.steps.proofs.set_aside.Reads as set-aside-reads
-use Rattle.steps.proofs.swap.Reads as swap-reads
+use Rattle.kinds.proofs.land.Reads as land-reads
+use Rattle.kinds.proofs.must_stop.Reads as must-stop-reads
+use Rattle.kinds.proofs.set_aside.Reads as set-aside-reads
+use Rattle.kinds.proofs.swap.Reads as swap-reads
 
 -- src/lib.rt:92:13
 slice-read-y : tie.Need-slice-read-y

@@ -1,19 +1,12 @@
--- `store::Control::change` meets its contract: refusals 1 to 3, else what `change_in` gives. Assumes nothing.
-use mathlib.Core.Path.{sym, _∙_, ap}
-use lib.ListN.{length}
-use Rattle.store.specs.Memory.{lent}
-use Rattle.store.specs.Refusals.{outcome}
+-- `store::Control::change` meets its contract: refusals 1 to 3, else what `changing::change` gives. Assumes nothing.
+use Rattle.rules.specs.Calls.{change}
+use Rattle.layout.specs.Memory.{lent}
+use Rattle.finding.proofs.Fits.{tables-ready, queue-bounds}
 use Rattle.store.specs.Calls.{changed}
-use Rattle.store.proofs.Faults.{no-fault, goes-on, keeps-all}
-use Rattle.store.proofs.Lying.{tables-ready, queue-bounds}
+use Rattle.store.proofs.Carrying.{refused-by, fits-by, changes-by}
 use borrow.Author.Needs.{needs}
 use Rattle.store.proofs.Control.change.Statement.{statement}
 use Rattle.store.proofs.Control.change.Tie as tie
-use Rattle.store.proofs.Control.change.Reads as reads
-use Rattle.store.proofs.Control.change.Lts as lts
-use Rattle.store.proofs.Control.change_in.Reads as change-in-reads
-use Rattle.store.proofs.Control.fault.Reads as fault-reads
-use Rattle.store.proofs.Control.reply.Reads as reply-reads
 
 fault-requires : tie.Need-fault-requires
 fault-requires c κs = search needs
@@ -26,14 +19,23 @@ unfolding changed
 returns c =
     let a = c .before .before .before .before .before .before .before .args in
     let m = lent (a .t0 .now) (a .t1 .now) (a .queue .now) (a .detector .now) in
-    ap (outcome m) (c .reply .ensures) ∙ keeps-all (a .self) m _ _ (c .before .before .fault .ensures) (c .before .if1 .taken)
+    refused-by (a .self) m (c .before .before .fault .ensures) _ (c .before .if1 .taken) (c .reply .ensures)
 
-change-in-requires : tie.Need-change-in-requires
-change-in-requires c κs =
-    let a = c .before .before .before .before .before .before .before .before .before .args in
+functions-requires : tie.Need-functions-requires
+functions-requires c κs = search needs
+
+rooms-requires : tie.Need-rooms-requires
+rooms-requires c κs = search needs
+
+change-requires : tie.Need-change-requires
+change-requires c κs =
+    let a = c .before .before .before .before .before .before .before .before .before .before .before .args in
     let m = lent (a .t0 .now) (a .t1 .now) (a .queue .now) (a .detector .now) in
-    let fit = no-fault (a .self) (length (a .t0 .now)) (length (a .t1 .now)) (length (a .queue .now)) (length (a .detector .now)) (sym (c .before .before .before .before .fault .ensures) ∙ c .before .before .before .if1 .left) in
-    (tables-ready (a .self) m fit, queue-bounds (a .self) m fit)
+    let fit = fits-by (a .self) m (c .before .before .before .before .before .before .fault .ensures) (c .before .before .before .before .before .if1 .left) (c .before .before .before .before .functions .ensures) (c .before .before .before .rooms .ensures) in
+    (tables-ready _ _ m fit, queue-bounds _ _ m fit)
+
+after-requires : tie.Need-after-requires
+after-requires c κs = search needs
 
 same-length : tie.Need-same-length
 same-length c = search needs
@@ -47,9 +49,9 @@ same-length-3 c = search needs
 returns-2 : tie.Need-returns-2
 unfolding changed
 returns-2 c =
-    let a = c .before .before .before .before .before .before .before .before .before .before .before .before .before .before .before .before .args in
+    let a = c .before .before .before .before .before .before .before .before .before .before .before .before .before .before .before .before .before .before .before .args in
     let m = lent (a .t0 .now) (a .t1 .now) (a .queue .now) (a .detector .now) in
-    c .before .before .before .before .before .before .change-in .ensures (a .detector .now) ∙ sym (goes-on (a .self) m _ (sym (c .before .before .before .before .before .before .before .before .before .before .before .fault .ensures) ∙ c .before .before .before .before .before .before .before .before .before .before .if1 .left))
+    changes-by (a .self) m (c .before .before .before .before .before .before .before .before .before .before .before .before .before .before .fault .ensures) (c .before .before .before .before .before .before .before .before .before .before .before .before .before .if1 .left) (c .before .before .before .before .before .before .before .before .before .before .before .before .functions .ensures) (c .before .before .before .before .before .before .before .before .before .before .before .rooms .ensures) (c .after .ensures) (a .x) (a .v) (λ n s. change n (a .x) (a .v) s .answer) (c .before .before .before .before .before .before .before .change .ensures (a .detector .now))
 
 pub change-spec : {M : Type 1} → statement M
 change-spec =
@@ -58,7 +60,10 @@ change-spec =
     fault-requires
     reply-requires
     returns
-    change-in-requires
+    functions-requires
+    rooms-requires
+    change-requires
+    after-requires
     same-length
     same-length-2
     same-length-3

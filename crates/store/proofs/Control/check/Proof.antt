@@ -1,18 +1,15 @@
--- `store::Control::check` meets its contract: refusals 1 to 3, else what `check_in` gives. Assumes nothing.
-use mathlib.Core.Path.{sym, _∙_, ap}
-use lib.ListN.{length}
-use Rattle.store.specs.Memory.{lent}
-use Rattle.store.specs.Refusals.{outcome}
+-- `store::Control::check` meets its contract: refusals 1 to 3, else what the test of the whole store answers. Assumes nothing.
+use mathlib.Core.Path.{refl, sym, _∙_}
+use native.Mathlib.Omega.{arith}
+use Rattle.layout.specs.Memory.{lent}
+use Rattle.finding.proofs.Fits.{tables-ready}
+use Rattle.store.specs.Memory.{roomsOf}
 use Rattle.store.specs.Calls.{checked}
-use Rattle.store.proofs.Faults.{no-fault, goes-on, keeps-all}
+use Rattle.store.proofs.Carrying.{refused-by, fits-by}
+use Rattle.store.proofs.Checking.{tested-by, checks-by}
 use borrow.Author.Needs.{needs}
 use Rattle.store.proofs.Control.check.Statement.{statement}
 use Rattle.store.proofs.Control.check.Tie as tie
-use Rattle.store.proofs.Control.check.Reads as reads
-use Rattle.store.proofs.Control.check.Lts as lts
-use Rattle.store.proofs.Control.check_in.Reads as check-in-reads
-use Rattle.store.proofs.Control.fault.Reads as fault-reads
-use Rattle.store.proofs.Control.reply.Reads as reply-reads
 
 fault-requires : tie.Need-fault-requires
 fault-requires c κs = search needs
@@ -25,19 +22,51 @@ unfolding checked
 returns c =
     let a = c .before .before .before .before .before .before .before .args in
     let m = lent (a .t0 .now) (a .t1 .now) (a .queue .now) (a .detector .now) in
-    ap (outcome m) (c .reply .ensures) ∙ keeps-all (a .self) m _ _ (c .before .before .fault .ensures) (c .before .if1 .taken)
+    refused-by (a .self) m (c .before .before .fault .ensures) _ (c .before .if1 .taken) (c .reply .ensures)
 
-check-in-requires : tie.Need-check-in-requires
-check-in-requires c κs =
-    let a = c .before .before .before .before .before .before .args in
-    no-fault (a .self) (length (a .t0 .now)) (length (a .t1 .now)) (length (a .queue .now)) (length (a .detector .now)) (sym (c .before .fault .ensures) ∙ c .if1 .left)
+functions-requires : tie.Need-functions-requires
+functions-requires c κs = search needs
+
+is-sound-requires : tie.Need-is-sound-requires
+is-sound-requires c κs =
+    let a = c .before .before .before .before .before .before .before .args in
+    let m = lent (a .t0 .now) (a .t1 .now) (a .queue .now) (a .detector .now) in
+    let fit = fits-by (a .self) m (c .before .before .fault .ensures) (c .before .if1 .left) {w = roomsOf (a .self)} (c .functions .ensures) refl in
+    let r = fit .rooms in
+    (tables-ready _ _ m fit, (omega arith, omega arith, omega arith, omega arith))
+
+reply-requires-2 : tie.Need-reply-requires-2
+reply-requires-2 c κs = search needs
 
 returns-2 : tie.Need-returns-2
 unfolding checked
 returns-2 c =
-    let a = c .before .before .before .before .before .before .before .args in
+    let a = c .before .before .before .before .before .before .before .before .before .before .args in
     let m = lent (a .t0 .now) (a .t1 .now) (a .queue .now) (a .detector .now) in
-    c .check-in .ensures ∙ sym (goes-on (a .self) m _ (sym (c .before .before .fault .ensures) ∙ c .before .if1 .left))
+    let b = tested-by (a .self) m (c .before .before .before .functions .ensures) (c .before .before .is-sound .ensures) in
+    checks-by (a .self) m (c .before .before .before .before .before .fault .ensures) (c .before .before .before .before .if1 .left) (sym (c .before .if2 .taken) ∙ b) (c .reply2 .ensures)
+
+reply-requires-3 : tie.Need-reply-requires-3
+reply-requires-3 c κs = search needs
+
+returns-3 : tie.Need-returns-3
+unfolding checked
+returns-3 c =
+    let a = c .before .before .before .before .before .before .before .before .before .before .args in
+    let m = lent (a .t0 .now) (a .t1 .now) (a .queue .now) (a .detector .now) in
+    let b = tested-by (a .self) m (c .before .before .before .functions .ensures) (c .before .before .is-sound .ensures) in
+    checks-by (a .self) m (c .before .before .before .before .before .fault .ensures) (c .before .before .before .before .if1 .left) (sym (c .before .if2 .left) ∙ b) (c .reply3 .ensures)
 
 pub check-spec : {M : Type 1} → statement M
-check-spec = tie.close (tie.spec fault-requires reply-requires returns check-in-requires returns-2)
+check-spec =
+    tie.close
+    (tie.spec
+    fault-requires
+    reply-requires
+    returns
+    functions-requires
+    is-sound-requires
+    reply-requires-2
+    returns-2
+    reply-requires-3
+    returns-3)

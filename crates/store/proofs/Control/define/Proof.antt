@@ -1,18 +1,11 @@
--- `store::Control::define` meets its contract: refusals 1 to 3, else what `define_in` gives. Assumes nothing.
-use mathlib.Core.Path.{sym, _∙_, ap}
-use lib.ListN.{length}
-use Rattle.store.specs.Memory.{lent}
-use Rattle.store.specs.Refusals.{outcome}
+-- `store::Control::define` meets its contract: refusals 1 to 3, else what `adding::define` gives. Assumes nothing.
+use Rattle.rules.specs.Calls.{define}
+use Rattle.layout.specs.Memory.{lent}
 use Rattle.store.specs.Calls.{defined}
-use Rattle.store.proofs.Faults.{no-fault, goes-on, keeps-all}
+use Rattle.store.proofs.Carrying.{refused-by, fits-by, leaves-by}
 use borrow.Author.Needs.{needs}
 use Rattle.store.proofs.Control.define.Statement.{statement}
 use Rattle.store.proofs.Control.define.Tie as tie
-use Rattle.store.proofs.Control.define.Reads as reads
-use Rattle.store.proofs.Control.define.Lts as lts
-use Rattle.store.proofs.Control.define_in.Reads as define-in-reads
-use Rattle.store.proofs.Control.fault.Reads as fault-reads
-use Rattle.store.proofs.Control.reply.Reads as reply-reads
 
 fault-requires : tie.Need-fault-requires
 fault-requires c κs = search needs
@@ -25,12 +18,22 @@ unfolding defined
 returns c =
     let a = c .before .before .before .before .before .before .before .args in
     let m = lent (a .t0 .now) (a .t1 .now) (a .queue .now) (a .detector .now) in
-    ap (outcome m) (c .reply .ensures) ∙ keeps-all (a .self) m _ _ (c .before .before .fault .ensures) (c .before .if1 .taken)
+    refused-by (a .self) m (c .before .before .fault .ensures) _ (c .before .if1 .taken) (c .reply .ensures)
 
-define-in-requires : tie.Need-define-in-requires
-define-in-requires c κs =
-    let a = c .before .before .before .before .before .before .before .before .before .before .args in
-    no-fault (a .self) (length (a .t0 .now)) (length (a .t1 .now)) (length (a .queue .now)) (length (a .detector .now)) (sym (c .before .before .before .before .before .fault .ensures) ∙ c .before .before .before .before .if1 .left)
+functions-requires : tie.Need-functions-requires
+functions-requires c κs = search needs
+
+rooms-requires : tie.Need-rooms-requires
+rooms-requires c κs = search needs
+
+define-requires : tie.Need-define-requires
+define-requires c κs =
+    let a = c .before .before .before .before .before .before .before .before .before .before .before .before .args in
+    let m = lent (a .t0 .now) (a .t1 .now) (a .queue .now) (a .detector .now) in
+    fits-by (a .self) m (c .before .before .before .before .before .before .before .fault .ensures) (c .before .before .before .before .before .before .if1 .left) (c .before .before .before .before .before .functions .ensures) (c .before .before .before .before .rooms .ensures)
+
+after-requires : tie.Need-after-requires
+after-requires c κs = search needs
 
 same-length : tie.Need-same-length
 same-length c = search needs
@@ -47,9 +50,9 @@ same-length-4 c = search needs
 returns-2 : tie.Need-returns-2
 unfolding defined
 returns-2 c =
-    let a = c .before .before .before .before .before .before .before .before .before .before .before .before .before .before .before .before .before .before .before .args in
+    let a = c .before .before .before .before .before .before .before .before .before .before .before .before .before .before .before .before .before .before .before .before .before .before .args in
     let m = lent (a .t0 .now) (a .t1 .now) (a .queue .now) (a .detector .now) in
-    c .before .before .before .before .before .before .before .before .define-in .ensures ∙ sym (goes-on (a .self) m _ (sym (c .before .before .before .before .before .before .before .before .before .before .before .before .before .before .fault .ensures) ∙ c .before .before .before .before .before .before .before .before .before .before .before .before .before .if1 .left))
+    leaves-by (a .self) m (c .before .before .before .before .before .before .before .before .before .before .before .before .before .before .before .before .before .fault .ensures) (c .before .before .before .before .before .before .before .before .before .before .before .before .before .before .before .before .if1 .left) (c .before .before .before .before .before .before .before .before .before .before .before .before .before .before .before .functions .ensures) (c .before .before .before .before .before .before .before .before .before .before .before .before .before .before .rooms .ensures) (c .after .ensures) (λ n s. define n (a .x) (a .v) s) (c .before .before .before .before .before .before .before .before .before .define .ensures)
 
 pub define-spec : {M : Type 1} → statement M
 define-spec =
@@ -58,7 +61,10 @@ define-spec =
     fault-requires
     reply-requires
     returns
-    define-in-requires
+    functions-requires
+    rooms-requires
+    define-requires
+    after-requires
     same-length
     same-length-2
     same-length-3

@@ -1,0 +1,117 @@
+// Define and settle, the record and the lengths being accepted. Inner functions: their callers show what they require.
+ghost use mathlib.Core.Path.{_≡_};
+ghost use Prim.Native.Nat.{ℕ, _≤_, _<_};
+ghost use Rattle.rules.specs.Run.{run};
+ghost use Rattle.rules.specs.Calls.{joined, define, settle};
+ghost use Rattle.layout.specs.Memory.{lent};
+ghost use Rattle.kinds.specs.Shape.{Ready};
+ghost use Rattle.finding.specs.Inner.{numbersOf, storeOf, outcome, leaves, FitIn};
+ghost use Rattle.adding.specs.Ran.{ranOutcome};
+use finding::Done;
+use finding::Rooms;
+use numbers::Functions;
+
+// Steps until the budget is spent or nothing waits.
+fn run_out(
+    f: Functions,
+    c: Rooms,
+    budget: u32,
+    t0: &mut [u32],
+    t1: &mut [u32],
+    queue: &mut [u32],
+    detector: &mut [u32],
+) -> Done
+    requires { ⌜ budget ≤ 64 ⌝ }
+    requires { ⌜ FitIn f c (lent (now t0) (now t1) (now queue) (now detector)) ⌝ }
+    requires { ⌜ Ready (c .«queue_len») (c .«detector_len») (now queue) (now detector) ⌝ }
+    ensures { λ a. ⌜ outcome (lent (now (t0 .exit)) (now (t1 .exit)) (now (queue .exit)) (now (detector .exit))) a ≡ ranOutcome c (run (numbersOf f c) budget (storeOf f c (lent (now (t0 .entry)) (now (t1 .entry)) (now (queue .entry)) (now (detector .entry))))) ⌝ }
+{
+    let e = steps::run_steps(
+        f,
+        c.detector_room,
+        budget,
+        c.queue_len,
+        c.detector_len,
+        t0,
+        t1,
+        queue,
+        detector,
+    );
+    Done {
+        queue_len: e.queue_len,
+        detector_len: e.detector_len,
+        number: 0,
+        value: 0,
+        steps: e.steps,
+        moves: e.moves,
+    }
+}
+
+// Settle n: steps run until n are done or the queue is empty.
+pub fn settle(
+    f: Functions,
+    c: Rooms,
+    n: u32,
+    t0: &mut [u32],
+    t1: &mut [u32],
+    queue: &mut [u32],
+    detector: &mut [u32],
+) -> Done
+    requires { ⌜ FitIn f c (lent (now t0) (now t1) (now queue) (now detector)) ⌝ }
+    ensures { λ a. ⌜ outcome (lent (now (t0 .exit)) (now (t1 .exit)) (now (queue .exit)) (now (detector .exit))) a ≡ leaves c (lent (now (t0 .entry)) (now (t1 .entry)) (now (queue .entry)) (now (detector .entry))) (settle (numbersOf f c) n (storeOf f c (lent (now (t0 .entry)) (now (t1 .entry)) (now (queue .entry)) (now (detector .entry))))) ⌝ }
+{
+    if c.step_limit < n {
+        return c.reply(8, 0);
+    }
+    layout::tidy(queue, c.queue_len, detector, c.detector_len);
+    run_out(f, c, n, t0, t1, queue, detector)
+}
+
+// The entry (x, v, 0) joins the back of the queue, which has room, then steps run until L are done or the queue is empty.
+fn join(
+    f: Functions,
+    mut c: Rooms,
+    x: u32,
+    v: u32,
+    t0: &mut [u32],
+    t1: &mut [u32],
+    queue: &mut [u32],
+    detector: &mut [u32],
+) -> Done
+    requires { ⌜ c .«queue_len» < c .«queue_room» ⌝ }
+    requires { ⌜ FitIn f c (lent (now t0) (now t1) (now queue) (now detector)) ⌝ }
+    requires { ⌜ Ready (c .«queue_len») (c .«detector_len») (now queue) (now detector) ⌝ }
+    ensures { λ a. ⌜ outcome (lent (now (t0 .exit)) (now (t1 .exit)) (now (queue .exit)) (now (detector .exit))) a ≡ ranOutcome c (run (numbersOf f c) (c .«step_limit») (joined x v (storeOf f c (lent (now (t0 .entry)) (now (t1 .entry)) (now (queue .entry)) (now (detector .entry)))))) ⌝ }
+{
+    words::put_three(queue, 3 * (c.queue_len as usize), x, v, 0);
+    c.queue_len = c.queue_len + 1;
+    run_out(f, c, c.step_limit, t0, t1, queue, detector)
+}
+
+// Define: the entry (x, v, 0) joins the queue, then steps run, unless find would find the key or the queue is full.
+pub fn define(
+    f: Functions,
+    c: Rooms,
+    x: u32,
+    v: u32,
+    t0: &mut [u32],
+    t1: &mut [u32],
+    queue: &mut [u32],
+    detector: &mut [u32],
+) -> Done
+    requires { ⌜ FitIn f c (lent (now t0) (now t1) (now queue) (now detector)) ⌝ }
+    ensures { λ a. ⌜ outcome (lent (now (t0 .exit)) (now (t1 .exit)) (now (queue .exit)) (now (detector .exit))) a ≡ leaves c (lent (now (t0 .entry)) (now (t1 .entry)) (now (queue .entry)) (now (detector .entry))) (define (numbersOf f c) x v (storeOf f c (lent (now (t0 .entry)) (now (t1 .entry)) (now (queue .entry)) (now (detector .entry))))) ⌝ }
+{
+    let found = finding::find(f, c, x, t0, t1, queue);
+    if found.number == 0 {
+        return c.reply(5, found.value);
+    }
+    if found.number == 4 {
+        return c.reply(4, 0);
+    }
+    if c.queue_room <= c.queue_len {
+        return c.reply(6, 0);
+    }
+    layout::tidy(queue, c.queue_len, detector, c.detector_len);
+    join(f, c, x, v, t0, t1, queue, detector)
+}

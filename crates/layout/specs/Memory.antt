@@ -1,0 +1,31 @@
+-- Document 01, "Memory": the lent buffers, the words of a store, and places past the lengths. Assumes nothing.
+use Prim.Native.Nat.{ℕ}
+use mathlib.Core.Path.{_≡_}
+use mathlib.Core.List.{List}
+use lib.ListN.{length}
+use Rattle.rules.specs.Store.{Store}
+use Rattle.layout.specs.Forms.{cellForm, entryForm, pairForm, readMany, writeMany, packed}
+
+-- "Tables, queue and detector are lent slices of u32"
+pub record Lent : Type 0 where
+  pub table0 : List ℕ
+  pub table1 : List ℕ
+  pub queue : List ℕ
+  pub detector : List ℕ
+
+abbrev pub lent : List ℕ → List ℕ → List ℕ → List ℕ → Lent
+lent t0 t1 q d = record { table0 = t0; table1 = t1; queue = q; detector = d }
+
+-- the words of a store, in a queue of nq words and a detector of nd words: zeros past the lengths
+unfoldable pub wordsIn : (nq nd : ℕ) → Store → Lent
+wordsIn nq nd s = record {
+  table0 = writeMany cellForm (s .tables .table0);
+  table1 = writeMany cellForm (s .tables .table1);
+  queue = packed entryForm nq (s .waiting);
+  detector = packed pairForm nd (s .marked);
+}
+
+-- places past the lengths are zero, and the others as they were
+pub record Tidied (ql dl : ℕ) (q d q′ d′ : List ℕ) : Type 0 where
+  pub queue : q′ ≡ packed entryForm (length q) (readMany entryForm ql q)
+  pub detector : d′ ≡ packed pairForm (length d) (readMany pairForm dl d)
