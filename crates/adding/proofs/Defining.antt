@@ -22,12 +22,12 @@ use Rattle.kinds.specs.Shape.{Ready, entriesIn, entry}
 use Rattle.steps.specs.Shape.{Holds}
 use Rattle.steps.proofs.Going.{holds-store}
 use Rattle.numbers.specs.declared.Functions.{Functions}
-use Rattle.layout.specs.Memory.{Lent, lent, wordsIn, Tidied}
+use Rattle.layout.specs.Memory.{Lent, lent, wordsIn}
 use Rattle.finding.specs.declared.Rooms.{Rooms}
 use Rattle.finding.specs.declared.Done.{Done}
 use Rattle.finding.specs.Inner.{numbersOf, storeOf, withLens, Outcome, outcome, answered, leaves, FitIn}
 use Rattle.adding.specs.Ran.{ranOutcome}
-use Rattle.adding.proofs.Lying.{held-fit, held-ready, tidied-store}
+use Rattle.adding.proofs.Lying.{held-fit, held-ready}
 
 -- the entry (x, v, 0) put behind those that wait
 module _ (f : Functions) (c : Rooms) (x v : ℕ) (t0 t1 q d q′ : List ℕ) (more : c .«queue_len» < c .«queue_room») (fit : FitIn f c (lent t0 t1 q d))
@@ -52,10 +52,10 @@ module _ (f : Functions) (c : Rooms) (x v : ℕ) (t0 t1 q d q′ : List ℕ) (mo
   pub joined-ready : Ready (c .«queue_len» + 1) (c .«detector_len») q′ d
   joined-ready = held-ready f c (c .«queue_len» + 1) t0 t1 q d q′ d (joined x v (storeOf f c (lent t0 t1 q d))) fit (omega arith) joined-holds
 
-  pub joined-runs : {o : Outcome} → o ≡ ranOutcome longer (run (numbersOf f longer) (c .«step_limit») (storeOf f longer (lent t0 t1 q′ d)))
-      → o ≡ ranOutcome c (run (numbersOf f c) (c .«step_limit») (joined x v (storeOf f c (lent t0 t1 q d))))
+  pub joined-runs : {s : Store} {o : Outcome} → storeOf f c (lent t0 t1 q d) ≡ s → o ≡ ranOutcome longer (run (numbersOf f longer) (c .«step_limit») (storeOf f longer (lent t0 t1 q′ d)))
+      → o ≡ ranOutcome c (run (numbersOf f c) (c .«step_limit») (joined x v s))
   unfolding wordsIn
-  joined-runs e = e ∙ ap (λ s. ranOutcome c (run (numbersOf f c) (c .«step_limit») s)) (holds-store joined-holds)
+  joined-runs is e = e ∙ ap (λ s. ranOutcome c (run (numbersOf f c) (c .«step_limit») s)) (holds-store joined-holds ∙ ap (joined x v) is)
 
 -- define, by what find answers
 module _ (n : Numbers) (x v : ℕ) (s : Store) where
@@ -126,9 +126,6 @@ module _ (f : Functions) (c : Rooms) (x v : ℕ) (t0 t1 q d : List ℕ) (g : Don
     unfolding leaves
     refuses-full l e = ap (outcome m) e ∙ sym (ap (leaves c m) (placed-at true (le-leb (c .«queue_room») (length (entriesIn (c .«queue_len») q)) (omega (arith, waits)))))
 
-    pub defines : {q′ d′ : List ℕ} {o : Outcome} → c .«queue_len» < c .«queue_room» → FitIn f c m → Tidied (c .«queue_len») (c .«detector_len») q d q′ d′
-        → o ≡ ranOutcome c (run (numbersOf f c) (c .«step_limit») (joined x v (storeOf f c (lent t0 t1 q′ d′)))) → Defines o
+    pub defines : {o : Outcome} → c .«queue_len» < c .«queue_room» → o ≡ ranOutcome c (run (numbersOf f c) (c .«step_limit») (joined x v (storeOf f c m))) → Defines o
     unfolding leaves
-    defines {q′} {d′} l fit t e =
-        e ∙ ap (λ s. ranOutcome c (run (numbersOf f c) (c .«step_limit») (joined x v s))) (tidied-store f c t0 t1 q d q′ d′ fit t)
-        ∙ sym (ap (leaves c m) (placed-at false (lt-leb (c .«queue_room») (length (entriesIn (c .«queue_len») q)) (omega (arith, waits)))))
+    defines l e = e ∙ sym (ap (leaves c m) (placed-at false (lt-leb (c .«queue_room») (length (entriesIn (c .«queue_len») q)) (omega (arith, waits)))))

@@ -67,7 +67,7 @@ pub fn settle(
     run_out(f, c, n, t0, t1, queue, detector)
 }
 
-// The entry (x, v, 0) joins the back of the queue, which has room, then steps run until L are done or the queue is empty.
+// The places past the lengths are cleared, the entry (x, v, 0) joins the back of the queue, which has room, then steps run until L are done or the queue is empty.
 fn join(
     f: Functions,
     mut c: Rooms,
@@ -80,9 +80,9 @@ fn join(
 ) -> Done
     requires { ⌜ c .«queue_len» < c .«queue_room» ⌝ }
     requires { ⌜ FitIn f c (lent (now t0) (now t1) (now queue) (now detector)) ⌝ }
-    requires { ⌜ Ready (c .«queue_len») (c .«detector_len») (now queue) (now detector) ⌝ }
     ensures { λ a. ⌜ outcome (lent (now (t0 .exit)) (now (t1 .exit)) (now (queue .exit)) (now (detector .exit))) a ≡ ranOutcome c (run (numbersOf f c) (c .«step_limit») (joined x v (storeOf f c (lent (now (t0 .entry)) (now (t1 .entry)) (now (queue .entry)) (now (detector .entry)))))) ⌝ }
 {
+    layout::tidy(queue, c.queue_len, detector, c.detector_len);
     words::put_three(queue, 3 * (c.queue_len as usize), x, v, 0);
     c.queue_len = c.queue_len + 1;
     run_out(f, c, c.step_limit, t0, t1, queue, detector)
@@ -112,6 +112,5 @@ pub fn define(
     if c.queue_room <= c.queue_len {
         return c.reply(6, 0);
     }
-    layout::tidy(queue, c.queue_len, detector, c.detector_len);
     join(f, c, x, v, t0, t1, queue, detector)
 }

@@ -1,16 +1,12 @@
--- "places past the lengths are zero": the test, and the whole test of a store in words. Assumes nothing.
+-- The whole test of a store in words. Assumes nothing.
 use Prim.Native.Nat.{ℕ, _*_}
-use mathlib.Core.Bool.{Bool, true, _&&_}
-use mathlib.Core.List.{List, [], _∷_}
-use lib.Dec.{eqb}
+use mathlib.Core.Bool.{Bool, _&&_}
+use mathlib.Core.List.{List}
 use lib.ListN.{drop}
 use Rattle.rules.specs.Store.{Numbers}
 use Rattle.rules.specs.Check.{isSound}
 use Rattle.steps.specs.Shape.{storeIn}
-
-unfoldable pub allZero : List ℕ → Bool
-allZero [] = true
-allZero (x ∷ ws) = eqb x 0 && allZero ws
+use Rattle.entries.specs.Zeros.{allZero}
 
 -- the store that the words hold passes the test, and the places past the lengths are zero
 unfoldable pub soundIn : Numbers → ℕ → ℕ → ℕ → List ℕ → List ℕ → List ℕ → List ℕ → Bool

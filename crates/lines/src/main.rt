@@ -1,5 +1,7 @@
-// Runs the lines of "Checked by hand" on the real calls. Each call prints a line: its name, its key or budget, the refusal, the value, the steps, the moves.
+// Runs the lines of "Checked by hand" on the real calls. Each call prints a line: its mark or name, its key or budget, the refusal, the value, the steps, the moves.
 // After some of them the words of a buffer are printed.
+use records::Command;
+use session::Bench;
 use store::Answer;
 use store::Control;
 
@@ -8,6 +10,7 @@ fn number(n: u32) {
     io::print_decimal(1, n as u64);
 }
 
+// The line of open or check.
 fn told(name: &[u8], key: u32, a: Answer) {
     io::write_all(1, name);
     number(key);
@@ -28,280 +31,17 @@ fn words(name: &[u8], ws: &[u32]) {
     io::write_all(1, b"\n");
 }
 
-fn define(
-    c: Control,
-    x: u32,
-    v: u32,
-    t0: &mut [u32],
-    t1: &mut [u32],
-    queue: &mut [u32],
-    detector: &mut [u32],
-) -> Control {
-    let a = c.define(x, v, t0, t1, queue, detector);
-    told(b"define", x, a);
-    a.control
-}
-
-fn settle(
-    c: Control,
-    n: u32,
-    t0: &mut [u32],
-    t1: &mut [u32],
-    queue: &mut [u32],
-    detector: &mut [u32],
-) -> Control {
-    let a = c.settle(n, t0, t1, queue, detector);
-    told(b"settle", n, a);
-    a.control
-}
-
-fn check(c: Control, t0: &[u32], t1: &[u32], queue: &[u32], detector: &[u32]) {
-    told(b"check", 0, c.check(t0, t1, queue, detector));
-}
-
-// Store S, handed from call to call.
-struct Bench {
-    c: Control,
-    t0: [u32; 8],
-    t1: [u32; 8],
-    queue: [u32; 12],
-    detector: [u32; 16],
-}
-
-impl Bench {
-    fn opens() -> Bench {
-        let mut t0: [u32; 8] = [9; 8];
-        let mut t1: [u32; 8] = [9; 8];
-        let mut queue: [u32; 12] = [9; 12];
-        let mut detector: [u32; 16] = [9; 16];
-        let a = Control::open(
-            4,
-            4,
-            8,
-            2,
-            1,
-            0,
-            536870912,
-            0,
-            &mut t0,
-            &mut t1,
-            &mut queue,
-            &mut detector,
-        );
-        told(b"open", 4, a);
-        let c = a.control;
-        Bench {
-            c,
-            t0,
-            t1,
-            queue,
-            detector,
-        }
-    }
-
-    fn defines(self, x: u32, v: u32) -> Bench {
-        let c = self.c;
-        let mut t0 = self.t0;
-        let mut t1 = self.t1;
-        let mut queue = self.queue;
-        let mut detector = self.detector;
-        let a = c.define(x, v, &mut t0, &mut t1, &mut queue, &mut detector);
-        told(b"define", x, a);
-        let next = a.control;
-        Bench {
-            c: next,
-            t0,
-            t1,
-            queue,
-            detector,
-        }
-    }
-
-    fn changes(self, x: u32, v: u32) -> Bench {
-        let c = self.c;
-        let mut t0 = self.t0;
-        let mut t1 = self.t1;
-        let mut queue = self.queue;
-        let mut detector = self.detector;
-        let a = c.change(x, v, &mut t0, &mut t1, &mut queue, &mut detector);
-        told(b"change", x, a);
-        let next = a.control;
-        Bench {
-            c: next,
-            t0,
-            t1,
-            queue,
-            detector,
-        }
-    }
-
-    fn removes(self, x: u32) -> Bench {
-        let c = self.c;
-        let mut t0 = self.t0;
-        let mut t1 = self.t1;
-        let mut queue = self.queue;
-        let mut detector = self.detector;
-        let a = c.remove(x, &mut t0, &mut t1, &mut queue, &mut detector);
-        told(b"remove", x, a);
-        let next = a.control;
-        Bench {
-            c: next,
-            t0,
-            t1,
-            queue,
-            detector,
-        }
-    }
-
-    fn settles(self, n: u32) -> Bench {
-        let c = self.c;
-        let mut t0 = self.t0;
-        let mut t1 = self.t1;
-        let mut queue = self.queue;
-        let mut detector = self.detector;
-        let a = c.settle(n, &mut t0, &mut t1, &mut queue, &mut detector);
-        told(b"settle", n, a);
-        let next = a.control;
-        Bench {
-            c: next,
-            t0,
-            t1,
-            queue,
-            detector,
-        }
-    }
-
-    fn finds(self, x: u32) -> Bench {
-        let c = self.c;
-        let t0 = self.t0;
-        let t1 = self.t1;
-        let queue = self.queue;
-        let detector = self.detector;
-        let a = c.find(x, &t0, &t1, &queue, &detector);
-        told(b"find", x, a);
-        let next = a.control;
-        Bench {
-            c: next,
-            t0,
-            t1,
-            queue,
-            detector,
-        }
-    }
-
-    fn checks(self) -> Bench {
-        let c = self.c;
-        let t0 = self.t0;
-        let t1 = self.t1;
-        let queue = self.queue;
-        let detector = self.detector;
-        let a = c.check(&t0, &t1, &queue, &detector);
-        told(b"check", 0, a);
-        let next = a.control;
-        Bench {
-            c: next,
-            t0,
-            t1,
-            queue,
-            detector,
-        }
-    }
-
-    fn shows_t0(self) -> Bench {
-        let t0 = self.t0;
-        words(b"table 0:", &t0);
-        self
-    }
-
-    fn shows_t1(self) -> Bench {
-        let t1 = self.t1;
-        words(b"table 1:", &t1);
-        self
-    }
-
-    fn shows_queue(self) -> Bench {
-        let queue = self.queue;
-        words(b"queue:", &queue);
-        self
-    }
-
-    fn shows_detector(self) -> Bench {
-        let detector = self.detector;
-        words(b"detector:", &detector);
-        self
-    }
-}
-
-// Define 1 (10), 5 (20), 9 (30), 21 (40), then 13 (50): 5 waits.
-fn fills(start: Bench) -> Bench {
-    let mut b = start;
-    b = b.defines(1, 10);
-    b = b.defines(5, 20);
-    b = b.defines(9, 30);
-    b = b.defines(21, 40);
-    b = b.shows_t0();
-    b = b.shows_t1();
-    b = b.defines(13, 50);
-    b = b.shows_queue();
-    b = b.finds(5);
-    b = b.defines(5, 21);
-    b
-}
-
-// Settle 2, define 17: six keys, five cells.
-fn crowds(start: Bench) -> Bench {
-    let mut b = start;
-    b = b.settles(2);
-    b = b.shows_t1();
-    b = b.defines(17, 60);
-    b = b.settles(2);
-    b = b.settles(2);
-    b = b.settles(2);
-    b = b.shows_queue();
-    b = b.shows_detector();
-    b = b.settles(1);
-    b = b.shows_queue();
-    b = b.shows_detector();
-    b
-}
-
-// Remove 21, settle 2 empties the queue; then what is refused, and check before and after a free cell gets a value.
-fn refuses(start: Bench) -> Bench {
-    let mut b = start;
-    b = b.removes(21);
-    b = b.settles(2);
-    b = b.shows_queue();
-    b = b.settles(0);
-    b = b.settles(3);
-    b = b.finds(0);
-    b = b.finds(2147483648);
-    b = b.defines(0, 1);
-    b = b.defines(2147483648, 1);
-    b = b.changes(5, 22);
-    b = b.removes(2);
-    b = b.checks();
-    b.t0[1] = 7;
-    b = b.checks();
-    b
-}
-
-fn store_s() {
-    let b = Bench::opens();
-    let c = fills(b);
-    let d = crowds(c);
-    refuses(d);
-}
-
-fn store_t() {
-    let mut t0: [u32; 2] = [9; 2];
-    let mut t1: [u32; 2] = [9; 2];
-    let mut queue: [u32; 3] = [9; 3];
-    let mut detector: [u32; 4] = [9; 4];
+// Store S over buffers that hold nines.
+fn opens_s() -> Bench {
+    let mut t0: [u32; 8] = [9; 8];
+    let mut t1: [u32; 8] = [9; 8];
+    let mut queue: [u32; 12] = [9; 12];
+    let mut detector: [u32; 16] = [9; 16];
     let a = Control::open(
-        1,
-        1,
+        4,
+        4,
+        8,
         2,
-        1,
         1,
         0,
         536870912,
@@ -311,21 +51,196 @@ fn store_t() {
         &mut queue,
         &mut detector,
     );
-    told(b"open", 1, a);
-    let mut c = a.control;
-    c = define(c, 1, 10, &mut t0, &mut t1, &mut queue, &mut detector);
-    c = define(c, 2, 20, &mut t0, &mut t1, &mut queue, &mut detector);
-    c = define(c, 3, 30, &mut t0, &mut t1, &mut queue, &mut detector);
-    c = define(c, 1, 11, &mut t0, &mut t1, &mut queue, &mut detector);
-    c = settle(c, 1, &mut t0, &mut t1, &mut queue, &mut detector);
-    c = define(c, 3, 30, &mut t0, &mut t1, &mut queue, &mut detector);
-    c = settle(c, 1, &mut t0, &mut t1, &mut queue, &mut detector);
+    told(b"open", 4, a);
+    let c = a.control;
+    Bench {
+        c,
+        t0,
+        t1,
+        queue,
+        detector,
+    }
+}
+
+fn checks_s(b: Bench) {
+    let c = b.c;
+    let t0 = b.t0;
+    let t1 = b.t1;
+    let queue = b.queue;
+    let detector = b.detector;
+    told(b"check", 0, c.check(&t0, &t1, &queue, &detector));
+}
+
+fn shows_t0(b: Bench) {
+    let t0 = b.t0;
+    words(b"table 0:", &t0);
+}
+
+fn shows_t1(b: Bench) {
+    let t1 = b.t1;
+    words(b"table 1:", &t1);
+}
+
+fn shows_queue(b: Bench) {
+    let queue = b.queue;
     words(b"queue:", &queue);
+}
+
+fn shows_detector(b: Bench) {
+    let detector = b.detector;
     words(b"detector:", &detector);
-    c = settle(c, 1, &mut t0, &mut t1, &mut queue, &mut detector);
-    words(b"queue:", &queue);
-    words(b"detector:", &detector);
-    check(c, &t0, &t1, &queue, &detector);
+}
+
+// Define 1 (10), 5 (20), 9 (30), 21 (40), then 13 (50): 5 waits.
+fn fills(start: Bench) -> Bench {
+    let mut b = start;
+    b = b.runs(Command::Define(1, 10));
+    b = b.runs(Command::Define(5, 20));
+    b = b.runs(Command::Define(9, 30));
+    b = b.runs(Command::Define(21, 40));
+    shows_t0(b);
+    shows_t1(b);
+    b = b.runs(Command::Define(13, 50));
+    shows_queue(b);
+    b = b.runs(Command::Find(5));
+    b = b.runs(Command::Define(5, 21));
+    b
+}
+
+// Settle 2, define 17: six keys, five cells.
+fn crowds(start: Bench) -> Bench {
+    let mut b = start;
+    b = b.runs(Command::Settle(2));
+    shows_t1(b);
+    b = b.runs(Command::Define(17, 60));
+    b = b.runs(Command::Settle(2));
+    b = b.runs(Command::Settle(2));
+    b = b.runs(Command::Settle(2));
+    shows_queue(b);
+    shows_detector(b);
+    b = b.runs(Command::Settle(1));
+    shows_queue(b);
+    shows_detector(b);
+    b
+}
+
+// Remove 21, settle 2 empties the queue; then what is refused.
+fn refuses(start: Bench) -> Bench {
+    let mut b = start;
+    b = b.runs(Command::Remove(21));
+    b = b.runs(Command::Settle(2));
+    shows_queue(b);
+    b = b.runs(Command::Settle(0));
+    b = b.runs(Command::Settle(3));
+    b = b.runs(Command::Find(0));
+    b = b.runs(Command::Find(2147483648));
+    b = b.runs(Command::Define(0, 1));
+    b = b.runs(Command::Define(2147483648, 1));
+    b = b.runs(Command::Change(5, 22));
+    b = b.runs(Command::Remove(2));
+    b
+}
+
+// Check before and after a free cell gets a value.
+fn store_s() {
+    let b = opens_s();
+    let c = fills(b);
+    let d = crowds(c);
+    let mut e = refuses(d);
+    checks_s(e);
+    e.t0[1] = 7;
+    checks_s(e);
+}
+
+// Store T, handed from call to call.
+struct Small {
+    c: Control,
+    t0: [u32; 2],
+    t1: [u32; 2],
+    queue: [u32; 3],
+    detector: [u32; 4],
+}
+
+impl Small {
+    fn opens() -> Small {
+        let mut t0: [u32; 2] = [9; 2];
+        let mut t1: [u32; 2] = [9; 2];
+        let mut queue: [u32; 3] = [9; 3];
+        let mut detector: [u32; 4] = [9; 4];
+        let a = Control::open(
+            1,
+            1,
+            2,
+            1,
+            1,
+            0,
+            536870912,
+            0,
+            &mut t0,
+            &mut t1,
+            &mut queue,
+            &mut detector,
+        );
+        told(b"open", 1, a);
+        let c = a.control;
+        Small {
+            c,
+            t0,
+            t1,
+            queue,
+            detector,
+        }
+    }
+
+    fn runs(self, command: Command) -> Small {
+        let c = self.c;
+        let mut t0 = self.t0;
+        let mut t1 = self.t1;
+        let mut queue = self.queue;
+        let mut detector = self.detector;
+        let a = commands::run(c, command, &mut t0, &mut t1, &mut queue, &mut detector);
+        session::told(records::heading_of(command), a);
+        let next = a.control;
+        Small {
+            c: next,
+            t0,
+            t1,
+            queue,
+            detector,
+        }
+    }
+
+    fn checks(self) {
+        let c = self.c;
+        let t0 = self.t0;
+        let t1 = self.t1;
+        let queue = self.queue;
+        let detector = self.detector;
+        told(b"check", 0, c.check(&t0, &t1, &queue, &detector));
+    }
+
+    fn shows(self) {
+        let queue = self.queue;
+        let detector = self.detector;
+        words(b"queue:", &queue);
+        words(b"detector:", &detector);
+    }
+}
+
+// 1 waits; then it waits with side 0 and two other pairs are marked, and a settle sets it aside.
+fn store_t() {
+    let mut b = Small::opens();
+    b = b.runs(Command::Define(1, 10));
+    b = b.runs(Command::Define(2, 20));
+    b = b.runs(Command::Define(3, 30));
+    b = b.runs(Command::Define(1, 11));
+    b = b.runs(Command::Settle(1));
+    b = b.runs(Command::Define(3, 30));
+    b = b.runs(Command::Settle(1));
+    b.shows();
+    b = b.runs(Command::Settle(1));
+    b.shows();
+    b.checks();
 }
 
 // Open with r cells and Q places over buffers of the lengths that r 1 and these Q imply.

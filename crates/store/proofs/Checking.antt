@@ -18,7 +18,8 @@ use Rattle.layout.specs.Forms.{cellForm, entryForm, pairForm}
 use Rattle.layout.proofs.Forms.{length-readMany}
 use Rattle.numbers.specs.declared.Functions.{Functions}
 use Rattle.steps.specs.Shape.{homesOf}
-use Rattle.checks.specs.Zeros.{allZero, soundIn}
+use Rattle.entries.specs.Zeros.{allZero}
+use Rattle.checks.specs.Zeros.{soundIn}
 use Rattle.store.specs.declared.Control.{Control}
 use Rattle.store.specs.declared.Answer.{Answer}
 use Rattle.layout.specs.Memory.{Lent}

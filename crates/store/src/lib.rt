@@ -15,6 +15,7 @@ use finding::Rooms;
 use numbers::Functions;
 
 // r, Q, D, L, the numbers of the two home functions, and the two lengths.
+#[repr(C)]
 pub struct Control {
     pub r: u32,
     pub queue_room: u32,
@@ -29,6 +30,7 @@ pub struct Control {
 }
 
 // What every call answers. Number 0 is accepted.
+#[repr(C)]
 pub struct Answer {
     pub control: Control,
     pub number: u32,

@@ -1,6 +1,4 @@
--- `adding::define` meets its contract: what find answers picks the case; the words that `tidy` leaves hold the same store, and `join` goes on from there.
--- Assumes nothing.
-use Rattle.adding.proofs.Lying.{tidied-fit, tidied-ready}
+-- `adding::define` meets its contract: what find answers picks the case. Assumes nothing.
 use Rattle.adding.proofs.Defining.{refuses-held, refuses-bad, refuses-full, defines}
 use borrow.Author.Needs.{needs}
 use Rattle.adding.proofs.define.Statement.{statement}
@@ -60,15 +58,8 @@ returns-3 c =
     let a = c .before .before .before .before .before .before .before .before .before .before .before .before .before .before .before .args in
     refuses-full (a .f) (a .c) (a .x) (a .v) (a .t0 .now) (a .t1 .now) (a .queue .now) (a .detector .now) _ (c .before .before .before .before .before .before .before .find .ensures) (c .before .before .before .before .before .if1 .left) (c .before .before .before .if2 .left) (c .before .if3 .taken) (c .reply3 .ensures)
 
-tidy-requires : tie.Need-tidy-requires
-tidy-requires c κs = search needs
-
 join-requires : tie.Need-join-requires
-join-requires c κs =
-    let s = c .before .before .before .before .before .before .before .before .before .before .before .before .before .before .before .before .before .before .before .before .before .before .before .before .before in
-    let a = s .args in
-    let tidy = c .before .before .before .before .before .before .before .before .tidy .ensures in
-    (c .before .before .before .before .before .before .before .before .before .before .before .if3 .left, (tidied-fit (a .f) (a .c) (a .t0 .now) (a .t1 .now) (a .queue .now) (a .detector .now) _ _ (s .pre) tidy, tidied-ready (a .f) (a .c) (a .t0 .now) (a .t1 .now) (a .queue .now) (a .detector .now) _ _ (s .pre) tidy))
+join-requires c κs = search needs
 
 same-length-10 : tie.Need-same-length-10
 same-length-10 c = search needs
@@ -84,10 +75,9 @@ same-length-13 c = search needs
 
 returns-4 : tie.Need-returns-4
 returns-4 c =
-    let s = c .before .before .before .before .before .before .before .before .before .before .before .before .before .before .before .before .before .before .before .before .before .before .before .before .before .before .before .before .before .before .before .before .before .before in
+    let s = c .before .before .before .before .before .before .before .before .before .before .before .before .before .before .before .before .before .before .before .before .before .before .before .before .before .before .before in
     let a = s .args in
-    defines (a .f) (a .c) (a .x) (a .v) (a .t0 .now) (a .t1 .now) (a .queue .now) (a .detector .now) _ (c .before .before .before .before .before .before .before .before .before .before .before .before .before .before .before .before .before .before .before .before .before .before .before .before .before .before .find .ensures) (c .before .before .before .before .before .before .before .before .before .before .before .before .before .before .before .before .before .before .before .before .before .before .before .before .if1 .left) (c .before .before .before .before .before .before .before .before .before .before .before .before .before .before .before .before .before .before .before .before .before .before .if2 .left)
-    (c .before .before .before .before .before .before .before .before .before .before .before .before .before .before .before .before .before .before .before .before .if3 .left) (s .pre) (c .before .before .before .before .before .before .before .before .before .before .before .before .before .before .before .before .before .tidy .ensures) (c .before .before .before .before .before .before .before .before .join .ensures)
+    defines (a .f) (a .c) (a .x) (a .v) (a .t0 .now) (a .t1 .now) (a .queue .now) (a .detector .now) _ (c .before .before .before .before .before .before .before .before .before .before .before .before .before .before .before .before .before .before .before .find .ensures) (c .before .before .before .before .before .before .before .before .before .before .before .before .before .before .before .before .before .if1 .left) (c .before .before .before .before .before .before .before .before .before .before .before .before .before .before .before .if2 .left) (c .before .before .before .before .before .before .before .before .before .before .before .before .before .if3 .left) (c .before .before .before .before .before .before .before .before .join .ensures)
 
 pub define-spec : {M : Type 1} → statement M
 define-spec =
@@ -109,7 +99,6 @@ define-spec =
     same-length-8
     same-length-9
     returns-3
-    tidy-requires
     join-requires
     same-length-10
     same-length-11

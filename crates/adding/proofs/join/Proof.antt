@@ -1,10 +1,14 @@
--- `adding::join` meets its contract: the words with the entry behind are ready and hold the joined store, so `run_out` runs from there.
--- Assumes nothing.
+-- `adding::join` meets its contract: the words that `tidy` leaves hold the same store; with the entry behind they are ready and hold the joined store, so
+-- `run_out` runs from there. Assumes nothing.
 use native.Mathlib.Omega.{arith}
 use Rattle.adding.proofs.Defining.{joined-fit, joined-ready, joined-runs}
+use Rattle.adding.proofs.Lying.{tidied-fit, tidied-ready, tidied-store}
 use borrow.Author.Needs.{needs}
 use Rattle.adding.proofs.join.Statement.{statement}
 use Rattle.adding.proofs.join.Tie as tie
+
+tidy-requires : tie.Need-tidy-requires
+tidy-requires c κs = search needs
 
 cast-put-three : tie.Need-cast-put-three
 cast-put-three c = search needs
@@ -20,14 +24,14 @@ add-c c = search needs
 
 run-out-requires : tie.Need-run-out-requires
 run-out-requires c κs =
-    let s = c .before .before .before .before .before .before .before .before .before .before .before .before .before .before in
+    let s = c .before .before .before .before .before .before .before .before .before .before .before .before .before .before .before .before .before .before .before .before .before in
     let a = s .args in
-    let e = c .before .before .before .before .before .before .before .put-three .ensures in (
-      omega (arith, s .pre .1 .0 .limit-small, s .pre .1 .0 .rooms .queue-small),
-      (
-        joined-fit (a .f) (a .c) (a .x) (a .v) (a .t0 .now) (a .t1 .now) (a .queue .now) (a .detector .now) _ (s .pre .0) (s .pre .1 .0) (s .pre .1 .1) e,
-        joined-ready (a .f) (a .c) (a .x) (a .v) (a .t0 .now) (a .t1 .now) (a .queue .now) (a .detector .now) _ (s .pre .0) (s .pre .1 .0) (s .pre .1 .1) e,
-      ),
+    let tidy = c .before .before .before .before .before .before .before .before .before .before .before .before .before .before .tidy .ensures in
+    let fit = tidied-fit (a .f) (a .c) (a .t0 .now) (a .t1 .now) (a .queue .now) (a .detector .now) _ _ (s .pre .1) tidy in
+    let ready = tidied-ready (a .f) (a .c) (a .t0 .now) (a .t1 .now) (a .queue .now) (a .detector .now) _ _ (s .pre .1) tidy in
+    let put = c .before .before .before .before .before .before .before .put-three .ensures in (
+      omega (arith, s .pre .1 .limit-small, s .pre .1 .rooms .queue-small),
+      (joined-fit (a .f) (a .c) (a .x) (a .v) (a .t0 .now) (a .t1 .now) _ _ _ (s .pre .0) fit ready put, joined-ready (a .f) (a .c) (a .x) (a .v) (a .t0 .now) (a .t1 .now) _ _ _ (s .pre .0) fit ready put),
     )
 
 same-length : tie.Need-same-length
@@ -44,14 +48,18 @@ same-length-4 c = search needs
 
 returns : tie.Need-returns
 returns c =
-    let s = c .before .before .before .before .before .before .before .before .before .before .before .before .before .before .before .before .before .before .before .before .before .before .before in
+    let s = c .before .before .before .before .before .before .before .before .before .before .before .before .before .before .before .before .before .before .before .before .before .before .before .before .before .before .before .before .before .before in
     let a = s .args in
-    joined-runs (a .f) (a .c) (a .x) (a .v) (a .t0 .now) (a .t1 .now) (a .queue .now) (a .detector .now) _ (s .pre .0) (s .pre .1 .0) (s .pre .1 .1) (c .before .before .before .before .before .before .before .before .before .before .before .before .before .before .before .before .put-three .ensures) (c .before .before .before .before .before .before .before .before .run-out .ensures)
+    let tidy = c .before .before .before .before .before .before .before .before .before .before .before .before .before .before .before .before .before .before .before .before .before .before .before .tidy .ensures in
+    let fit = tidied-fit (a .f) (a .c) (a .t0 .now) (a .t1 .now) (a .queue .now) (a .detector .now) _ _ (s .pre .1) tidy in
+    let ready = tidied-ready (a .f) (a .c) (a .t0 .now) (a .t1 .now) (a .queue .now) (a .detector .now) _ _ (s .pre .1) tidy in
+    joined-runs (a .f) (a .c) (a .x) (a .v) (a .t0 .now) (a .t1 .now) _ _ _ (s .pre .0) fit ready (c .before .before .before .before .before .before .before .before .before .before .before .before .before .before .before .before .put-three .ensures) (tidied-store (a .f) (a .c) (a .t0 .now) (a .t1 .now) (a .queue .now) (a .detector .now) _ _ (s .pre .1) tidy) (c .before .before .before .before .before .before .before .before .run-out .ensures)
 
 pub join-spec : {M : Type 1} → statement M
 join-spec =
     tie.close
     (tie.spec
+    tidy-requires
     cast-put-three
     mul-put-three
     put-three-requires
