@@ -134,6 +134,11 @@ def cases():
     c["long_then_bad"] = joined(random_records(2, 150, CROWD + [4, 8, 12])) + record("XX", 1, 1) + joined(SIX)
     return c
 
+def examples(root):
+    """the records of examples/, which a reader of the README runs"""
+    names = sorted(n for n in os.listdir(root + "/examples") if n.endswith(".records"))
+    return {n[:-len(".records")]: open(root + "/examples/" + n, "rb").read() for n in names}
+
 def write(path, data):
     os.makedirs(os.path.dirname(path), exist_ok=True)
     with open(path, "wb") as f: f.write(data)
@@ -143,7 +148,7 @@ def main(root):
     assert listing(six) == SIX_LISTING
     write(root + "/crates/case/stdin", six)
     write(root + "/crates/case/stdout", listing(six).encode())
-    all_cases = cases()
+    all_cases = dict(cases(), **examples(root))
     told = ""
     for name, data in all_cases.items():
         write(root + "/crates/case_files/data/" + name, data)
