@@ -23,7 +23,7 @@ use Rattle.steps.specs.Shape.{Holds}
 use Rattle.steps.proofs.Going.{holds-store}
 use Rattle.numbers.specs.declared.Functions.{Functions}
 use Rattle.layout.specs.Memory.{Lent, lent, wordsIn}
-use Rattle.finding.specs.declared.Rooms.{Rooms}
+use Rattle.numbers.specs.declared.Rooms.{Rooms}
 use Rattle.finding.specs.declared.Done.{Done}
 use Rattle.finding.specs.Inner.{numbersOf, storeOf, withLens, Outcome, outcome, answered, leaves, FitIn}
 use Rattle.adding.specs.Ran.{ranOutcome}

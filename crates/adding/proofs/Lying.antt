@@ -16,7 +16,7 @@ use Rattle.steps.specs.Shape.{storeIn, TablesReady, StepsWith, Holds, Runs}
 use Rattle.steps.proofs.Going.{holds-store, holds-queue, holds-detector, holds-ready}
 use Rattle.numbers.specs.declared.Functions.{Functions}
 use Rattle.layout.specs.Memory.{Lent, lent, wordsIn, Tidied}
-use Rattle.finding.specs.declared.Rooms.{Rooms}
+use Rattle.numbers.specs.declared.Rooms.{Rooms}
 use Rattle.finding.specs.declared.Done.{Done}
 use Rattle.finding.specs.Inner.{numbersOf, storeOf, wordsOf, withLens, Outcome, outcome, answered, FitIn}
 use Rattle.adding.specs.Ran.{ranOutcome}

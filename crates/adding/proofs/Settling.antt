@@ -7,7 +7,7 @@ use Rattle.rules.specs.Run.{run}
 use Rattle.rules.specs.Calls.{answer, settle}
 use Rattle.numbers.specs.declared.Functions.{Functions}
 use Rattle.layout.specs.Memory.{Lent, lent, Tidied}
-use Rattle.finding.specs.declared.Rooms.{Rooms}
+use Rattle.numbers.specs.declared.Rooms.{Rooms}
 use Rattle.finding.specs.Inner.{numbersOf, storeOf, keeps, leaves, FitIn}
 use Rattle.adding.specs.Ran.{ranOutcome}
 use Rattle.adding.proofs.Lying.{tidied-store}

@@ -1,7 +1,7 @@
 -- What a run of steps leaves, and gives back. Assumes nothing.
 use Rattle.rules.specs.Run.{Ran}
 use Rattle.rules.specs.Calls.{answer}
-use Rattle.finding.specs.declared.Rooms.{Rooms}
+use Rattle.numbers.specs.declared.Rooms.{Rooms}
 use Rattle.finding.specs.Inner.{wordsOf, roomsOf, answered, Outcome, outcome}
 
 -- the words, the lengths and the answer of a run

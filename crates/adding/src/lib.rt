@@ -8,8 +8,8 @@ ghost use Rattle.kinds.specs.Shape.{Ready};
 ghost use Rattle.finding.specs.Inner.{numbersOf, storeOf, outcome, leaves, FitIn};
 ghost use Rattle.adding.specs.Ran.{ranOutcome};
 use finding::Done;
-use finding::Rooms;
 use numbers::Functions;
+use numbers::Rooms;
 
 // Steps until the budget is spent or nothing waits.
 fn run_out(
@@ -61,7 +61,7 @@ pub fn settle(
     ensures { λ a. ⌜ outcome (lent (now (t0 .exit)) (now (t1 .exit)) (now (queue .exit)) (now (detector .exit))) a ≡ leaves c (lent (now (t0 .entry)) (now (t1 .entry)) (now (queue .entry)) (now (detector .entry))) (settle (numbersOf f c) n (storeOf f c (lent (now (t0 .entry)) (now (t1 .entry)) (now (queue .entry)) (now (detector .entry))))) ⌝ }
 {
     if c.step_limit < n {
-        return c.reply(8, 0);
+        return finding::reply(c, 8, 0);
     }
     layout::tidy(queue, c.queue_len, detector, c.detector_len);
     run_out(f, c, n, t0, t1, queue, detector)
@@ -104,13 +104,13 @@ pub fn define(
 {
     let found = finding::find(f, c, x, t0, t1, queue);
     if found.number == 0 {
-        return c.reply(5, found.value);
+        return finding::reply(c, 5, found.value);
     }
     if found.number == 4 {
-        return c.reply(4, 0);
+        return finding::reply(c, 4, 0);
     }
     if c.queue_room <= c.queue_len {
-        return c.reply(6, 0);
+        return finding::reply(c, 6, 0);
     }
     join(f, c, x, v, t0, t1, queue, detector)
 }

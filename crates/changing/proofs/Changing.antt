@@ -12,7 +12,7 @@ use Rattle.rules.specs.Store.{Store, Numbers}
 use Rattle.rules.specs.Search.{search, lookup}
 use Rattle.rules.specs.Calls.{answer, change}
 use Rattle.layout.specs.Memory.{Lent, lent}
-use Rattle.finding.specs.declared.Rooms.{Rooms}
+use Rattle.numbers.specs.declared.Rooms.{Rooms}
 use Rattle.finding.specs.declared.Done.{Done}
 use Rattle.finding.specs.declared.Place.{Place}
 use Rattle.finding.specs.declared.Place.the-variants.{Table0, Table1, Waiting, Nowhere}

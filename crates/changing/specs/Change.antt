@@ -10,7 +10,7 @@ use Rattle.rules.specs.Search.{Place, inTable, waitingAt, nowhere, search}
 use Rattle.rules.specs.Calls.{Answer as RulesAnswer, answer}
 use Rattle.rules.specs.Keeps.{isAccepted}
 use Rattle.layout.specs.Memory.{Lent, lent}
-use Rattle.finding.specs.declared.Rooms.{Rooms}
+use Rattle.numbers.specs.declared.Rooms.{Rooms}
 use Rattle.finding.specs.declared.Done.{Done}
 use Rattle.finding.specs.Inner.{numbersOf, storeOf, answered, Outcome, keeps}
 

@@ -10,8 +10,8 @@ ghost use Rattle.finding.specs.Inner.{numbersOf, storeOf, outcome};
 ghost use Rattle.changing.specs.Change.{changing, Exchanged};
 use finding::Done;
 use finding::Place;
-use finding::Rooms;
 use numbers::Functions;
+use numbers::Rooms;
 
 // Another value in entry i of width w; the old one is answered.
 fn exchange(c: Rooms, w: usize, i: usize, v: u32, ws: &mut [u32]) -> Done
@@ -21,7 +21,7 @@ fn exchange(c: Rooms, w: usize, i: usize, v: u32, ws: &mut [u32]) -> Done
     let at = w * i + 1;
     let old = ws[at];
     ws[at] = v;
-    c.reply(0, old)
+    finding::reply(c, 0, old)
 }
 
 // Change: the value at the place where the key lies is replaced; the old one is answered.
@@ -39,13 +39,13 @@ pub fn change(
     ensures { λ a. ⌜ ((d : List ℕ) → outcome (lent (now (t0 .exit)) (now (t1 .exit)) (now (queue .exit)) d) a ≡ changing f c x v (lent (now (t0 .entry)) (now (t1 .entry)) (now (queue .entry)) d) (change (numbersOf f c) x v (storeOf f c (lent (now (t0 .entry)) (now (t1 .entry)) (now (queue .entry)) d)) .answer)) ⌝ }
 {
     if !numbers::is_key(x) {
-        return c.reply(4, 0);
+        return finding::reply(c, 4, 0);
     }
     let p = finding::search(f, c, x, t0, t1, queue);
     match p {
         Place::Table0(i) => exchange(c, 2, i, v, t0),
         Place::Table1(i) => exchange(c, 2, i, v, t1),
         Place::Waiting(j) => exchange(c, 3, j, v, queue),
-        Place::Nowhere => c.reply(7, 0),
+        Place::Nowhere => finding::reply(c, 7, 0),
     }
 }

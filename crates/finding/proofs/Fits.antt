@@ -5,7 +5,7 @@ use lib.ListN.{length}
 use Rattle.numbers.specs.declared.Functions.{Functions}
 use Rattle.layout.specs.Memory.{Lent}
 use Rattle.steps.specs.Shape.{TablesReady}
-use Rattle.finding.specs.declared.Rooms.{Rooms}
+use Rattle.numbers.specs.declared.Rooms.{Rooms}
 use Rattle.finding.specs.Inner.{FitIn}
 
 pub tables-ready : (f : Functions) (c : Rooms) (m : Lent) → FitIn f c m → TablesReady (f .r) (m .table0) (m .table1)

@@ -21,7 +21,7 @@ use Rattle.kinds.specs.Shape.{entriesIn}
 use Rattle.steps.specs.Shape.{TablesReady}
 use Rattle.steps.proofs.InTable.{cell-read}
 use Rattle.layout.specs.Memory.{Lent}
-use Rattle.finding.specs.declared.Rooms.{Rooms}
+use Rattle.numbers.specs.declared.Rooms.{Rooms}
 use Rattle.finding.specs.declared.Place.{Place}
 use Rattle.finding.specs.declared.Place.the-variants.{Table0, Table1, Waiting, Nowhere}
 use Rattle.finding.specs.Inner.{numbersOf, storeOf, answered, placeOf, inside, Located}

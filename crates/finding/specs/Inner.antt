@@ -10,7 +10,7 @@ use Rattle.rules.specs.Calls.{Answer as RulesAnswer, Outcome as RulesOutcome}
 use Rattle.rules.specs.Keeps.{isAccepted}
 use Rattle.layout.specs.Memory.{Lent, wordsIn}
 use Rattle.steps.specs.Shape.{homesOf, storeIn}
-use Rattle.finding.specs.declared.Rooms.{Rooms}
+use Rattle.numbers.specs.declared.Rooms.{Rooms}
 use Rattle.finding.specs.declared.Done.{Done}
 use Rattle.finding.specs.declared.Place.{Place}
 use Rattle.finding.specs.declared.Place.the-variants.{Table0, Table1, Waiting, Nowhere}

@@ -8,15 +8,7 @@ ghost use Rattle.layout.specs.Memory.{lent};
 ghost use Rattle.steps.specs.Shape.{TablesReady};
 ghost use Rattle.finding.specs.Inner.{numbersOf, storeOf, answered, Located};
 use numbers::Functions;
-
-// The rooms, the step limit and the lengths of a control record.
-pub struct Rooms {
-    pub queue_room: u32,
-    pub detector_room: u32,
-    pub step_limit: u32,
-    pub queue_len: u32,
-    pub detector_len: u32,
-}
+use numbers::Rooms;
 
 // What a call gives back: the lengths and its answer.
 pub struct Done {
@@ -36,19 +28,17 @@ pub enum Place {
     Nowhere,
 }
 
-impl Rooms {
-    // An answer without steps; the lengths stay.
-    pub fn reply(self, number: u32, value: u32) -> Done
-        ensures { λ a. ⌜ a ≡ answered self (answer number value 0 0) ⌝ }
-    {
-        Done {
-            queue_len: self.queue_len,
-            detector_len: self.detector_len,
-            number,
-            value,
-            steps: 0,
-            moves: 0,
-        }
+// An answer without steps; the lengths stay.
+pub fn reply(c: Rooms, number: u32, value: u32) -> Done
+    ensures { λ a. ⌜ a ≡ answered c (answer number value 0 0) ⌝ }
+{
+    Done {
+        queue_len: c.queue_len,
+        detector_len: c.detector_len,
+        number,
+        value,
+        steps: 0,
+        moves: 0,
     }
 }
 
@@ -82,13 +72,13 @@ pub fn find(f: Functions, c: Rooms, x: u32, t0: &[u32], t1: &[u32], queue: &[u32
     ensures { λ a. ⌜ ((d : List ℕ) → a ≡ answered c (find (numbersOf f c) x (storeOf f c (lent (now (t0 .entry)) (now (t1 .entry)) (now (queue .entry)) d)) .answer)) ⌝ }
 {
     if !numbers::is_key(x) {
-        return c.reply(4, 0);
+        return reply(c, 4, 0);
     }
     let p = search(f, c, x, t0, t1, queue);
     match p {
-        Place::Table0(i) => c.reply(0, t0[2 * i + 1]),
-        Place::Table1(i) => c.reply(0, t1[2 * i + 1]),
-        Place::Waiting(j) => c.reply(0, queue[3 * j + 1]),
-        Place::Nowhere => c.reply(7, 0),
+        Place::Table0(i) => reply(c, 0, t0[2 * i + 1]),
+        Place::Table1(i) => reply(c, 0, t1[2 * i + 1]),
+        Place::Waiting(j) => reply(c, 0, queue[3 * j + 1]),
+        Place::Nowhere => reply(c, 7, 0),
     }
 }

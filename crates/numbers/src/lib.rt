@@ -1,4 +1,4 @@
-// The home functions of a store, and what a good key is. Inner functions: their callers show what they require.
+// The numbers of a control record, the home functions of a store, and what a good key is. Inner functions: their callers show what they require.
 ghost use mathlib.Core.Path.{_≡_};
 ghost use Prim.Native.Nat.{_<_};
 ghost use Rattle.numbers.specs.Home.{home};
@@ -12,6 +12,15 @@ pub struct Functions {
     pub b0: u32,
     pub a1: u32,
     pub b1: u32,
+}
+
+// The other numbers of a control record: the rooms, the step limit and the lengths.
+pub struct Rooms {
+    pub queue_room: u32,
+    pub detector_room: u32,
+    pub step_limit: u32,
+    pub queue_len: u32,
+    pub detector_len: u32,
 }
 
 // The home of x in a table of r cells: a 64-bit product, and a 32-bit remainder by r, since the value is below 2^31.

@@ -8,7 +8,7 @@ use Rattle.rules.specs.Calls.{answer, dropAt}
 use Rattle.layout.specs.Forms.{entryForm, pairForm, packed}
 use Rattle.layout.specs.Memory.{Tidied}
 use Rattle.kinds.specs.Shape.{entriesIn, pairsIn}
-use Rattle.finding.specs.declared.Rooms.{Rooms}
+use Rattle.numbers.specs.declared.Rooms.{Rooms}
 use Rattle.finding.specs.declared.Done.{Done}
 use Rattle.finding.specs.Inner.{answered, withLens}
 

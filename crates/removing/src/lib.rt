@@ -8,8 +8,8 @@ ghost use Rattle.finding.specs.Inner.{numbersOf, storeOf, outcome, leaves, Room
 ghost use Rattle.removing.specs.Gone.{CellGone, EntryGone};
 use finding::Done;
 use finding::Place;
-use finding::Rooms;
 use numbers::Functions;
+use numbers::Rooms;
 
 // A cell becomes 0, 0; its value is answered.
 fn remove_cell(c: Rooms, i: usize, t: &mut [u32], queue: &mut [u32], detector: &mut [u32]) -> Done
@@ -20,7 +20,7 @@ fn remove_cell(c: Rooms, i: usize, t: &mut [u32], queue: &mut [u32], detector: &
     let old = t[2 * i + 1];
     words::put_two(t, 2 * i, 0, 0);
     layout::tidy(queue, c.queue_len, detector, c.detector_len);
-    c.reply(0, old)
+    finding::reply(c, 0, old)
 }
 
 // A queue entry goes, and those behind it move up one; its value is answered.
@@ -34,7 +34,7 @@ fn remove_waiting(mut c: Rooms, j: usize, queue: &mut [u32], detector: &mut [u32
     let end = 3 * (c.queue_len as usize);
     words::close_gap(queue, 3 * j, 3, end);
     c.queue_len = c.queue_len - 1;
-    c.reply(0, old)
+    finding::reply(c, 0, old)
 }
 
 // Remove: the entry at the place where the key lies goes; its value is answered.
@@ -51,13 +51,13 @@ pub fn remove(
     ensures { λ a. ⌜ outcome (lent (now (t0 .exit)) (now (t1 .exit)) (now (queue .exit)) (now (detector .exit))) a ≡ leaves c (lent (now (t0 .entry)) (now (t1 .entry)) (now (queue .entry)) (now (detector .entry))) (remove (numbersOf f c) x (storeOf f c (lent (now (t0 .entry)) (now (t1 .entry)) (now (queue .entry)) (now (detector .entry))))) ⌝ }
 {
     if !numbers::is_key(x) {
-        return c.reply(4, 0);
+        return finding::reply(c, 4, 0);
     }
     let p = finding::search(f, c, x, t0, t1, queue);
     match p {
         Place::Table0(i) => remove_cell(c, i, t0, queue, detector),
         Place::Table1(i) => remove_cell(c, i, t1, queue, detector),
         Place::Waiting(j) => remove_waiting(c, j, queue, detector),
-        Place::Nowhere => c.reply(7, 0),
+        Place::Nowhere => finding::reply(c, 7, 0),
     }
 }

@@ -10,7 +10,8 @@ use Rattle.rules.specs.Calls.{Answer as RulesAnswer, answer, Outcome as RulesOu
 use Rattle.rules.specs.Search.{search}
 use Rattle.rules.specs.Keeps.{isAccepted}
 use Rattle.layout.specs.Memory.{Lent}
-use Rattle.finding.specs.declared.Rooms.{Rooms}
+use Rattle.faults.specs.Faults.{faultOf}
+use Rattle.numbers.specs.declared.Rooms.{Rooms}
 use Rattle.finding.specs.declared.Done.{Done}
 use Rattle.finding.specs.Inner.{numbersOf as innerNumbers, storeOf as innerStore, Outcome as InnerOutcome, outcome as inner, answered as innerAnswered, keeps as innerKeeps, leaves as innerLeaves, wordsOf as innerWords, roomsOf as innerRooms, FitIn}
 use Rattle.changing.specs.Change.{putValue, changing as innerChanging}
@@ -41,20 +42,30 @@ module _ (c : Control) (m : Lent) where
       go put true = refl
       go put false = refl
 
--- a call on a record and lent words: k is what the test of both answered, f and w are the code's two structs
-module _ (c : Control) (m : Lent) {k : ℕ} (test : k ≡ faultIn c m) where
-  pub refused-by : (after : Outcome) {a : Answer} → k ≢ 0 → a ≡ answered c (answer k 0 0 0) → outcome m a ≡ unlessFault c m after
-  refused-by after fault is = ap (outcome m) is ∙ keeps-all c m after k test fault
+-- a call on a record and lent words: f and w are the code's two structs, k is what the test of both and of the lengths answered
+module _ (c : Control) (m : Lent) {f : Functions} {w : Rooms} {k : ℕ} (functions : f ≡ functionsOf c) (rooms : w ≡ roomsOf c)
+    (test : k ≡ faultOf f w (length (m .table0)) (length (m .table1)) (length (m .queue)) (length (m .detector))) where
+  pub tested : k ≡ faultIn c m
+  tested = test ∙ (λ i. faultOf (functions i) (rooms i) (length (m .table0)) (length (m .table1)) (length (m .queue)) (length (m .detector)))
 
-  module _ (none : k ≡ 0) {f : Functions} {w : Rooms} (functions : f ≡ functionsOf c) (rooms : w ≡ roomsOf c) where
+  pub refused-by : (after : Outcome) {a : Answer} → k ≢ 0 → a ≡ answered c (answer k 0 0 0) → outcome m a ≡ unlessFault c m after
+  refused-by after fault is = ap (outcome m) is ∙ keeps-all c m after k tested fault
+
+  module _ (none : k ≡ 0) where
+    pub own-fits-by : FitIn (functionsOf c) (roomsOf c) m
+    own-fits-by = no-fault c (length (m .table0)) (length (m .table1)) (length (m .queue)) (length (m .detector)) (sym tested ∙ none)
+
     pub fits-by : FitIn f w m
-    fits-by = rw (functions, rooms) (no-fault c (length (m .table0)) (length (m .table1)) (length (m .queue)) (length (m .detector)) (sym test ∙ none))
+    fits-by = rw (functions, rooms) own-fits-by
+
+    pub goes-on-by : (after : Outcome) → after ≡ unlessFault c m after
+    goes-on-by after = sym (goes-on c m after (sym tested ∙ none))
 
     module _ {m′ : Lent} {d : Done} {a : Answer} (is : a ≡ carried c d) where
       -- whatever an inner call leaves, if what it leaves carries to what comes after
       goes-by : (G : Functions → Rooms → InnerOutcome) (after : Outcome) → carries c (G (functionsOf c) (roomsOf c)) ≡ after → inner m′ d ≡ G f w → outcome m′ a ≡ unlessFault c m after
       goes-by G after carry e =
-          ap (outcome m′) is ∙ ap (carries c) (e ∙ (λ i. G (functions i) (rooms i))) ∙ carry ∙ sym (goes-on c m after (sym test ∙ none))
+          ap (outcome m′) is ∙ ap (carries c) (e ∙ (λ i. G (functions i) (rooms i))) ∙ carry ∙ goes-on-by after
 
       pub keeps-by : (G : Numbers → Store → RulesAnswer) → inner m′ d ≡ innerKeeps w m (G (innerNumbers f w) (innerStore f w m)) → outcome m′ a ≡ unlessFault c m (keeps c m (G (numbersOf c) (storeOf c m)))
       keeps-by G = goes-by (λ g z. innerKeeps z m (G (innerNumbers g z) (innerStore g z m))) _ refl

@@ -26,9 +26,10 @@ use Rattle.layout.specs.Memory.{Lent}
 use Rattle.store.specs.Memory.{functionsOf, numbersOf, storeOf}
 use Rattle.store.specs.Refusals.{inRange, sized, filled, Outcome, outcome, answered, keeps, unlessFault}
 use Rattle.store.specs.Calls.{checking, checked}
-use Rattle.store.specs.Inner.{faultOf}
+use Rattle.faults.specs.Faults.{faultOf}
+use Rattle.faults.proofs.Accepted.{both, accepted-tests}
 use Rattle.store.specs.Sound.{sizedIn, SoundIn, CheckIsExact}
-use Rattle.store.proofs.Faults.{both, accepted-tests, no-fault, faultIn, goes-on, keeps-all}
+use Rattle.store.proofs.Faults.{no-fault, faultIn, goes-on, keeps-all}
 use Rattle.store.proofs.Written.{own-ranges}
 use Rattle.store.proofs.Simulation.{no-faults, contents}
 

@@ -10,12 +10,12 @@ use Rattle.rules.specs.Demand3.{settleAll as rulesSettleAll, stepsInAll as rule
 use Rattle.rules.proofs.Demand3.{demand-3 as rules-demand-3, demand-3-converse as rules-demand-3-converse}
 use Rattle.layout.specs.Forms.{entryForm}
 use Rattle.layout.proofs.Forms.{length-readMany}
-use Rattle.store.specs.Memory.{numbersOf, storeOf}
+use Rattle.store.specs.Memory.{functionsOf, roomsOf, numbersOf, storeOf}
 use Rattle.store.specs.Calls.{settled}
 use Rattle.store.specs.Sound.{SoundIn}
 use Rattle.store.specs.Demand2.{Held, given}
 use Rattle.store.specs.Demand3.{settleAll, stepsInAll, bound, start, Demand3, Demand3Converse}
-use Rattle.store.proofs.Faults.{ranges}
+use Rattle.faults.proofs.Accepted.{ranges}
 use Rattle.store.proofs.Simulation.{simulates, into, contents}
 
 abbrev numbers : Held → Numbers
@@ -63,7 +63,7 @@ demand-3 c m sound fit =
     record {
       empties = λ budgets l. none-waits (settleAll budgets (start c m)) (ap (λ s. s .waiting) (settles-as budgets (start c m) sound) ∙ r .empties budgets (subst (λ k. k ≤ granted (numbersOf c) budgets) same l));
       within = λ budgets. rw (steps-as budgets (start c m) sound, same) (r .within budgets);
-      calls-exist = subst (λ k. (budgets : List ℕ) × (k ≤ granted (numbersOf c) budgets)) (sym same) (r .calls-exist (ranges c (sound .in-range) .limit-some));
+      calls-exist = subst (λ k. (budgets : List ℕ) × (k ≤ granted (numbersOf c) budgets)) (sym same) (r .calls-exist (ranges (functionsOf c) (roomsOf c) (sound .in-range) .limit-some));
     }
 
 pub demand-3-converse : Demand3Converse

@@ -13,21 +13,22 @@ use Rattle.words.proofs.Pad.{pad-clear}
 use Rattle.rules.specs.Store.{Cell, freeCell, fresh}
 use Rattle.rules.specs.Calls.{answer}
 use Rattle.layout.specs.Forms.{cellForm, entryForm, pairForm, writeMany, packed}
+use Rattle.faults.specs.Faults.{withinRooms, faultOf}
+use Rattle.faults.proofs.Accepted.{accepted-tests}
 use Rattle.store.specs.declared.Control.{Control}
 use Rattle.store.specs.declared.Answer.{Answer}
 use Rattle.layout.specs.Memory.{wordsIn, Lent, lent}
 use Rattle.store.specs.Memory.{numbersOf, wordsOf, withLens}
 use Rattle.store.specs.Refusals.{inRange, sized, filled, outcome, answered, keeps}
 use Rattle.store.specs.Calls.{zeros, newRecord, opened}
-use Rattle.store.specs.Inner.{faultOf}
-use Rattle.store.proofs.Faults.{Sizes, sizes, accepted-tests, faultIn}
+use Rattle.store.proofs.Faults.{own-sizes, faultIn}
 
 abbrev sizedIn : Control → Lent → Bool
 sizedIn c m = sized c (length (m .table0)) (length (m .table1)) (length (m .queue)) (length (m .detector))
 
 -- a new record's lengths are within its rooms
 pub new-filled : (r Q D L a0 b0 a1 b1 : ℕ) → filled (newRecord r Q D L a0 b0 a1 b1) ≡ true
-unfolding filled
+unfolding withinRooms
 new-filled r Q D L a0 b0 a1 b1 = rw (le-leb 0 Q (omega arith), le-leb 0 D (omega arith))
 
 pub open-refuses : (c : Control) (m : Lent) (k : ℕ) → filled c ≡ true → k ≡ faultIn c m → k ≢ 0 → keeps zeros m (answer k 0 0 0) ≡ opened c m
@@ -66,6 +67,6 @@ pub open-accepts : (c : Control) (t0 t1 q d : List ℕ) {u0 u1 p e : List ℕ} {
 unfolding opened wordsIn fresh packed writeMany
 open-accepts c t0 t1 q d h e0 e1 eq ed ea =
     let t = accepted-tests (inRange c) (sizedIn c (lent t0 t1 q d)) (filled c) (unfold faultOf in h) in
-    let z : Sizes c (length t0) (length t1) (length q) (length d) = sizes c (length t0) (length t1) (length q) (length d) (t .1) in
+    let z = own-sizes c (length t0) (length t1) (length q) (length d) (t .1) in
     as-one (e0 ∙ all-cleared _ t0 (z .first) ∙ free-words (c .r)) (e1 ∙ all-cleared _ t1 (z .second) ∙ free-words (c .r)) (eq ∙ all-cleared _ q (z .queue)) (ed ∙ all-cleared _ d (z .detector)) ea
     ∙ simp (t .0, t .1)

@@ -15,10 +15,10 @@ use Rattle.layout.proofs.Forms.{cell-lawful, entry-lawful, read-at, read-set}
 use Rattle.kinds.specs.Shape.{cellsIn, entriesIn}
 use Rattle.store.specs.declared.Control.{Control}
 use Rattle.layout.specs.Memory.{Lent}
-use Rattle.store.specs.Memory.{storeOf}
+use Rattle.store.specs.Memory.{roomsOf, functionsOf, storeOf}
 use Rattle.changing.specs.Change.{putValue}
 use Rattle.store.specs.Sound.{sizedIn}
-use Rattle.store.proofs.Faults.{Sizes}
+use Rattle.faults.proofs.Accepted.{Sizes}
 
 abbrev cell : ℕ → ℕ → Cell
 cell k v = record { key = k; value = v }
@@ -59,7 +59,7 @@ Inside c nowhere = Unit {0}
 
 module _ (c : Control) (m : Lent) (v : ℕ) where
   -- the words hold the store with the value replaced
-  pub put-store : Sizes c (length (m .table0)) (length (m .table1)) (length (m .queue)) (length (m .detector)) → c .«queue_len» ≤ c .«queue_room»
+  pub put-store : Sizes (functionsOf c) (roomsOf c) (length (m .table0)) (length (m .table1)) (length (m .queue)) (length (m .detector)) → c .«queue_len» ≤ c .«queue_room»
       → (p : Place) → Inside c p → storeOf c (putValue p v m) ≡ withValue p v (storeOf c m)
   put-store sizes fits (inTable table-0 i) h =
       ap (λ cs. store (record { table0 = cs; table1 = cellsIn (c .r) (m .table1) }) (storeOf c m .waiting) (storeOf c m .marked)) (put-in-cell (c .r) i v (m .table0) h (omega (arith, sizes .first)))

@@ -22,14 +22,15 @@ use Rattle.rules.proofs.Places.{entry-within}
 use Rattle.rules.proofs.CallsKept.{by-found, call-keeps-sound as rules-keep-sound}
 use Rattle.store.specs.declared.Control.{Control}
 use Rattle.layout.specs.Memory.{Lent}
-use Rattle.store.specs.Memory.{functionsOf, numbersOf, storeOf, wordsOf, recordOf}
+use Rattle.store.specs.Memory.{functionsOf, roomsOf, numbersOf, storeOf, wordsOf, recordOf}
 use Rattle.store.specs.Refusals.{filled, Outcome, outcome, answered, keeps}
-use Rattle.store.specs.Inner.{faultOf}
+use Rattle.faults.specs.Faults.{withinRooms, faultOf}
+use Rattle.faults.proofs.Accepted.{ranges}
 use Rattle.store.specs.Calls.{leaves, changing, does}
 use Rattle.changing.specs.Change.{putValue}
 use Rattle.store.specs.Sound.{SoundIn, CallKeepsSound}
 use Rattle.store.specs.Demand2.{plain}
-use Rattle.store.proofs.Faults.{ranges, Sizes, sizes, faultIn, goes-on}
+use Rattle.store.proofs.Faults.{own-sizes, faultIn, goes-on}
 use Rattle.store.proofs.Demand1.{goesOn, does-is}
 use Rattle.store.proofs.Written.{reads-back, written-sound}
 use Rattle.store.proofs.Putting.{Inside, put-store, put-sized, put-behind, put-detector}
@@ -53,8 +54,8 @@ find-leaves n x s = go (goodKey x) (lookup n x s)
 
 module _ (c : Control) (m : Lent) (sound : SoundIn c m) where
   pub into : IntoCells (numbersOf c)
-  into table-0 x = home0-in-table (functionsOf c) x (omega (arith, ranges c (sound .in-range) .some))
-  into table-1 x = home1-in-table (functionsOf c) x (omega (arith, ranges c (sound .in-range) .some))
+  into table-0 x = home0-in-table (functionsOf c) x (omega (arith, ranges (functionsOf c) (roomsOf c) (sound .in-range) .some))
+  into table-1 x = home1-in-table (functionsOf c) x (omega (arith, ranges (functionsOf c) (roomsOf c) (sound .in-range) .some))
 
   pub contents : SoundContents (numbersOf c) (storeOf c m)
   contents = sound .sound .contents
@@ -66,7 +67,7 @@ module _ (c : Control) (m : Lent) (sound : SoundIn c m) where
   detector-fits = omega (arith, contents .detector-fits, length-readMany pairForm (c .«detector_len») (m .detector))
 
   pub no-faults : faultIn c m ≡ 0
-  unfolding faultOf filled
+  unfolding faultOf withinRooms
   no-faults = rw (sound .in-range, sound .buffers, le-leb (c .«queue_len») (c .«queue_room») queue-fits, le-leb (c .«detector_len») (c .«detector_room») detector-fits)
 
   -- everything kept
@@ -98,7 +99,7 @@ module _ (c : Control) (m : Lent) (sound : SoundIn c m) where
   -- a value put at a place within
   put : (p : Place) (v : ℕ) → Inside c p → (old : ℕ) → SoundContents (numbersOf c) (withValue p v (storeOf c m)) → Simulates c (keeps c (putValue p v m) (answer 0 old 0 0)) (accepted old (withValue p v (storeOf c m)))
   put p v within old ok =
-      let z : Sizes c (length (m .table0)) (length (m .table1)) (length (m .queue)) (length (m .detector)) = sizes c _ _ _ _ (sound .buffers) in
+      let z = own-sizes c (length (m .table0)) (length (m .table1)) (length (m .queue)) (length (m .detector)) (sound .buffers) in
       let e : storeOf c (putValue p v m) ≡ withValue p v (storeOf c m) = put-store c m v z queue-fits p within in
       record {
         sound = record {

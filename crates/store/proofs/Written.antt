@@ -20,7 +20,8 @@ use Rattle.store.specs.declared.Control.{Control}
 use Rattle.store.specs.Memory.{numbersOf, storeOf, wordsOf, recordOf}
 use Rattle.store.specs.Refusals.{inRange, sized}
 use Rattle.store.specs.Sound.{sizedIn, SoundIn, OpenIsSound}
-use Rattle.store.proofs.Faults.{both}
+use Rattle.faults.specs.Faults.{numbersInRange, lengthsFit}
+use Rattle.faults.proofs.Accepted.{both}
 use Rattle.store.proofs.Demand1.{by-open}
 
 -- past the words in use there are zeros
@@ -40,7 +41,7 @@ packed-zeros f ok room l i h = zeros-behind (writeMany f l) (room - length (writ
 
 -- buffers of the right lengths have the right sizes
 pub fits-sized : (c : Control) (n0 n1 nq nd : ℕ) → n0 ≡ 2 * c .r → n1 ≡ 2 * c .r → nq ≡ 3 * c .«queue_room» → nd ≡ 2 * c .«detector_room» → sized c n0 n1 nq nd ≡ true
-unfolding sized
+unfolding lengthsFit
 fits-sized c n0 n1 nq nd e0 e1 eq ed = rw (eq-eqb n0 (2 * c .r) e0, eq-eqb n1 (2 * c .r) e1, eq-eqb nq (3 * c .«queue_room») eq, eq-eqb nd (2 * c .«detector_room») ed)
 
 module _ (c : Control) (s : Store) (contents : SoundContents (numbersOf c) s) where
@@ -66,7 +67,7 @@ module _ (c : Control) (s : Store) (contents : SoundContents (numbersOf c) s) wh
   pub written-sound : inRange c ≡ true → InRange (numbersOf c) → SoundIn (recordOf c s) (wordsOf c s)
   unfolding wordsIn recordOf
   written-sound ranges range = record {
-    in-range = unfold inRange in ranges;
+    in-range = unfold numbersInRange in ranges;
     buffers = written-sized;
     sound = record { in-range = range; contents = subst (SoundContents (numbersOf c)) (sym reads-back) contents };
     queue-zeros = packed-zeros entryForm entry-lawful (3 * c .«queue_room») (s .waiting);
@@ -75,7 +76,7 @@ module _ (c : Control) (s : Store) (contents : SoundContents (numbersOf c) s) wh
 
 -- the record's own numbers, each in its range
 pub own-ranges : (c : Control) → inRange c ≡ true → InRange (numbersOf c)
-unfolding inRange
+unfolding numbersInRange
 own-ranges c h =
     let h4 = (both _ (addendInRange (c .b1)) h) .0 in
     let h3 = (both _ (multiplierInRange (c .a1)) h4) .0 in

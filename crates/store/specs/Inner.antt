@@ -1,16 +1,10 @@
 -- What the private functions give. Assumes nothing.
-use Prim.Native.Nat.{ℕ}
-use mathlib.Core.Bool.{cond}
 use Rattle.finding.specs.declared.Done.{Done}
 use Rattle.finding.specs.Inner.{Outcome as InnerOutcome}
 use Rattle.store.specs.declared.Control.{Control}
 use Rattle.store.specs.declared.Answer.{Answer}
 use Rattle.store.specs.Memory.{withLens}
-use Rattle.store.specs.Refusals.{inRange, sized, filled, Outcome, outcome}
-
--- refusal 1, 2 or 3, or 0
-unfoldable pub faultOf : Control → ℕ → ℕ → ℕ → ℕ → ℕ
-faultOf c n0 n1 nq nd = cond (inRange c) (cond (sized c n0 n1 nq nd) (cond (filled c) 0 3) 2) 1
+use Rattle.store.specs.Refusals.{Outcome, outcome}
 
 -- what an inner call gives back, with the record
 abbrev pub carried : Control → Done → Answer

@@ -5,7 +5,7 @@ use lib.ListN.{length}
 use Rattle.rules.specs.Store.{Store, Numbers}
 use Rattle.numbers.specs.declared.Functions.{Functions}
 use Rattle.layout.specs.Memory.{Lent, wordsIn}
-use Rattle.finding.specs.declared.Rooms.{Rooms}
+use Rattle.numbers.specs.declared.Rooms.{Rooms}
 use Rattle.steps.specs.Shape.{homesOf, storeIn}
 use Rattle.store.specs.declared.Control.{Control}
 

@@ -1,27 +1,25 @@
--- Document 01, "Refusal numbers": 1, 2 and 3, and what a call leaves and answers. Assumes nothing.
-use Prim.Native.Nat.{ℕ, _*_}
-use mathlib.Core.Bool.{Bool, true, false, not, _&&_}
-use lib.Dec.{eqb, leb}
+-- Document 01, "Refusal numbers": 1, 2 and 3, of a control record, and what a call leaves and answers. The tests stand in `faults/specs`. Assumes nothing.
+use Prim.Native.Nat.{ℕ}
+use mathlib.Core.Bool.{Bool, true, false, not}
 use lib.ListN.{length}
-use Rattle.numbers.specs.Ranges.{cellsInRange, queueRoomInRange, detectorRoomInRange, stepLimitInRange, multiplierInRange, addendInRange}
+use Rattle.faults.specs.Faults.{numbersInRange, lengthsFit, withinRooms}
 use Rattle.rules.specs.Calls.{Answer as RulesAnswer, answer}
 use Rattle.store.specs.declared.Control.{Control}
 use Rattle.store.specs.declared.Answer.{Answer}
+use Rattle.store.specs.Memory.{functionsOf, roomsOf}
 use Rattle.layout.specs.Memory.{Lent}
 
 -- 1: "r, Q, D, L or a function number out of range"
-unfoldable pub inRange : Control → Bool
-inRange c =
-    cellsInRange (c .r) && queueRoomInRange (c .«queue_room») && detectorRoomInRange (c .«detector_room») && stepLimitInRange (c .«step_limit»)
-    && multiplierInRange (c .a0) && addendInRange (c .b0) && multiplierInRange (c .a1) && addendInRange (c .b1)
+abbrev pub inRange : Control → Bool
+inRange c = numbersInRange (functionsOf c) (roomsOf c)
 
 -- 2: "a buffer's length is not 2r, 2r, 3Q or 2D words"
-unfoldable pub sized : Control → ℕ → ℕ → ℕ → ℕ → Bool
-sized c n0 n1 nq nd = eqb n0 (2 * c .r) && eqb n1 (2 * c .r) && eqb nq (3 * c .«queue_room») && eqb nd (2 * c .«detector_room»)
+abbrev pub sized : Control → ℕ → ℕ → ℕ → ℕ → Bool
+sized c n0 n1 nq nd = lengthsFit (functionsOf c) (roomsOf c) n0 n1 nq nd
 
 -- 3: "queue length above Q, or detector length above D"
-unfoldable pub filled : Control → Bool
-filled c = leb (c .«queue_len») (c .«queue_room») && leb (c .«detector_len») (c .«detector_room»)
+abbrev pub filled : Control → Bool
+filled c = withinRooms (roomsOf c)
 
 -- what a call leaves in the buffers, and its answer
 pub record Outcome : Type 0 where

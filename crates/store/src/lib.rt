@@ -1,18 +1,17 @@
 // The key table: calls on a control record, by value, and on lent words. Every call takes every record, number and buffer.
 ghost use mathlib.Core.Path.{_≡_};
-ghost use mathlib.Core.Bool.{true};
 ghost use mathlib.Core.List.{List, [], _∷_};
 ghost use Prim.Native.Nat.{ℕ, _+_, _*_, _≤_, _<_};
 ghost use lib.ListN.{length, getD, set};
 ghost use Rattle.rules.specs.Calls.{answer};
 ghost use Rattle.layout.specs.Memory.{lent};
 ghost use Rattle.store.specs.Memory.{functionsOf, roomsOf};
-ghost use Rattle.store.specs.Refusals.{inRange, sized, outcome, answered};
+ghost use Rattle.store.specs.Refusals.{outcome, answered};
 ghost use Rattle.store.specs.Calls.{zeros, newRecord, opened, found, defined, changed, removed, settled, checked};
-ghost use Rattle.store.specs.Inner.{faultOf, carried};
+ghost use Rattle.store.specs.Inner.{carried};
 use finding::Done;
-use finding::Rooms;
 use numbers::Functions;
+use numbers::Rooms;
 
 // r, Q, D, L, the numbers of the two home functions, and the two lengths.
 #[repr(C)]
@@ -66,48 +65,6 @@ impl Control {
         }
     }
 
-    // Whether the record's numbers are in range.
-    fn in_range(self) -> bool
-        ensures { λ k. ⌜ k ≡ inRange self ⌝ }
-    {
-        ((1 <= self.r) & (self.r <= 32768))
-            & ((1 <= self.queue_room) & (self.queue_room <= 64))
-            & ((2 <= self.detector_room) & (self.detector_room <= 128))
-            & ((1 <= self.step_limit) & (self.step_limit <= 64))
-            & ((1 <= self.a0) & (self.a0 <= 2147483646))
-            & ((0 <= self.b0) & (self.b0 <= 2147483646))
-            & ((1 <= self.a1) & (self.a1 <= 2147483646))
-            & ((0 <= self.b1) & (self.b1 <= 2147483646))
-    }
-
-    // Whether the buffers have the lengths that a record in range implies.
-    fn sized(self, n0: usize, n1: usize, nq: usize, nd: usize) -> bool
-        requires { ⌜ inRange self ≡ true ⌝ }
-        ensures { λ k. ⌜ k ≡ sized self n0 n1 nq nd ⌝ }
-    {
-        let r = self.r as usize;
-        let q = self.queue_room as usize;
-        let d = self.detector_room as usize;
-        (n0 == 2 * r) & (n1 == 2 * r) & (nq == 3 * q) & (nd == 2 * d)
-    }
-
-    // Refusal 1, 2 or 3 for the record and the buffers' lengths, or 0.
-    fn fault(self, n0: usize, n1: usize, nq: usize, nd: usize) -> u32
-        ensures { λ k. ⌜ k ≡ faultOf self n0 n1 nq nd ⌝ }
-    {
-        if !self.in_range() {
-            return 1;
-        }
-        if !self.sized(n0, n1, nq, nd) {
-            return 2;
-        }
-        if (self.queue_len <= self.queue_room) & (self.detector_len <= self.detector_room) {
-            0
-        } else {
-            3
-        }
-    }
-
     // An answer without steps.
     fn reply(self, number: u32, value: u32) -> Answer
         ensures { λ a. ⌜ a ≡ answered self (answer number value 0 0) ⌝ }
@@ -140,11 +97,13 @@ impl Control {
     pub fn find(self, x: u32, t0: &[u32], t1: &[u32], queue: &[u32], detector: &[u32]) -> Answer
         ensures { λ a. ⌜ outcome (lent (now (t0 .entry)) (now (t1 .entry)) (now (queue .entry)) (now (detector .entry))) a ≡ found self x (lent (now (t0 .entry)) (now (t1 .entry)) (now (queue .entry)) (now (detector .entry))) ⌝ }
     {
-        let k = self.fault(t0.len(), t1.len(), queue.len(), detector.len());
+        let f = self.functions();
+        let c = self.rooms();
+        let k = faults::fault(f, c, t0.len(), t1.len(), queue.len(), detector.len());
         if k != 0 {
             return self.reply(k, 0);
         }
-        self.after(finding::find(self.functions(), self.rooms(), x, t0, t1, queue))
+        self.after(finding::find(f, c, x, t0, t1, queue))
     }
 
     // Settle n: steps run until n are done or the queue is empty.
@@ -158,11 +117,13 @@ impl Control {
     ) -> Answer
         ensures { λ a. ⌜ outcome (lent (now (t0 .exit)) (now (t1 .exit)) (now (queue .exit)) (now (detector .exit))) a ≡ settled self n (lent (now (t0 .entry)) (now (t1 .entry)) (now (queue .entry)) (now (detector .entry))) ⌝ }
     {
-        let k = self.fault(t0.len(), t1.len(), queue.len(), detector.len());
+        let f = self.functions();
+        let c = self.rooms();
+        let k = faults::fault(f, c, t0.len(), t1.len(), queue.len(), detector.len());
         if k != 0 {
             return self.reply(k, 0);
         }
-        self.after(adding::settle(self.functions(), self.rooms(), n, t0, t1, queue, detector))
+        self.after(adding::settle(f, c, n, t0, t1, queue, detector))
     }
 
     // Define: the entry (key, value, 0) joins the back of the queue, then steps run until L are done or the queue is empty.
@@ -177,20 +138,13 @@ impl Control {
     ) -> Answer
         ensures { λ a. ⌜ outcome (lent (now (t0 .exit)) (now (t1 .exit)) (now (queue .exit)) (now (detector .exit))) a ≡ defined self x v (lent (now (t0 .entry)) (now (t1 .entry)) (now (queue .entry)) (now (detector .entry))) ⌝ }
     {
-        let k = self.fault(t0.len(), t1.len(), queue.len(), detector.len());
+        let f = self.functions();
+        let c = self.rooms();
+        let k = faults::fault(f, c, t0.len(), t1.len(), queue.len(), detector.len());
         if k != 0 {
             return self.reply(k, 0);
         }
-        self.after(adding::define(
-            self.functions(),
-            self.rooms(),
-            x,
-            v,
-            t0,
-            t1,
-            queue,
-            detector,
-        ))
+        self.after(adding::define(f, c, x, v, t0, t1, queue, detector))
     }
 
     // Change: the value at the place that find would use is replaced; the old one is answered. No steps.
@@ -205,11 +159,13 @@ impl Control {
     ) -> Answer
         ensures { λ a. ⌜ outcome (lent (now (t0 .exit)) (now (t1 .exit)) (now (queue .exit)) (now (detector .exit))) a ≡ changed self x v (lent (now (t0 .entry)) (now (t1 .entry)) (now (queue .entry)) (now (detector .entry))) ⌝ }
     {
-        let k = self.fault(t0.len(), t1.len(), queue.len(), detector.len());
+        let f = self.functions();
+        let c = self.rooms();
+        let k = faults::fault(f, c, t0.len(), t1.len(), queue.len(), detector.len());
         if k != 0 {
             return self.reply(k, 0);
         }
-        self.after(changing::change(self.functions(), self.rooms(), x, v, t0, t1, queue))
+        self.after(changing::change(f, c, x, v, t0, t1, queue))
     }
 
     // Remove: the entry at the place that find would use goes; its value is answered. No steps.
@@ -223,11 +179,13 @@ impl Control {
     ) -> Answer
         ensures { λ a. ⌜ outcome (lent (now (t0 .exit)) (now (t1 .exit)) (now (queue .exit)) (now (detector .exit))) a ≡ removed self x (lent (now (t0 .entry)) (now (t1 .entry)) (now (queue .entry)) (now (detector .entry))) ⌝ }
     {
-        let k = self.fault(t0.len(), t1.len(), queue.len(), detector.len());
+        let f = self.functions();
+        let c = self.rooms();
+        let k = faults::fault(f, c, t0.len(), t1.len(), queue.len(), detector.len());
         if k != 0 {
             return self.reply(k, 0);
         }
-        self.after(removing::remove(self.functions(), self.rooms(), x, t0, t1, queue, detector))
+        self.after(removing::remove(f, c, x, t0, t1, queue, detector))
     }
 
     // A record of zeros.
@@ -277,7 +235,9 @@ impl Control {
             queue_len: 0,
             detector_len: 0,
         };
-        let k = c.fault(t0.len(), t1.len(), queue.len(), detector.len());
+        let f = c.functions();
+        let w = c.rooms();
+        let k = faults::fault(f, w, t0.len(), t1.len(), queue.len(), detector.len());
         if k != 0 {
             return Control::zeros().reply(k, 0);
         }
@@ -289,12 +249,14 @@ impl Control {
     pub fn check(self, t0: &[u32], t1: &[u32], queue: &[u32], detector: &[u32]) -> Answer
         ensures { λ a. ⌜ outcome (lent (now (t0 .entry)) (now (t1 .entry)) (now (queue .entry)) (now (detector .entry))) a ≡ checked self (lent (now (t0 .entry)) (now (t1 .entry)) (now (queue .entry)) (now (detector .entry))) ⌝ }
     {
-        let k = self.fault(t0.len(), t1.len(), queue.len(), detector.len());
+        let f = self.functions();
+        let c = self.rooms();
+        let k = faults::fault(f, c, t0.len(), t1.len(), queue.len(), detector.len());
         if k != 0 {
             return self.reply(k, 0);
         }
         if checks::is_sound(
-            self.functions(),
+            f,
             self.queue_len,
             self.detector_len,
             t0,

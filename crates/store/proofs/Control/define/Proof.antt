@@ -7,6 +7,12 @@ use borrow.Author.Needs.{needs}
 use Rattle.store.proofs.Control.define.Statement.{statement}
 use Rattle.store.proofs.Control.define.Tie as tie
 
+functions-requires : tie.Need-functions-requires
+functions-requires c κs = search needs
+
+rooms-requires : tie.Need-rooms-requires
+rooms-requires c κs = search needs
+
 fault-requires : tie.Need-fault-requires
 fault-requires c κs = search needs
 
@@ -16,21 +22,15 @@ reply-requires c κs = search needs
 returns : tie.Need-returns
 unfolding defined
 returns c =
-    let a = c .before .before .before .before .before .before .before .args in
+    let a = c .before .before .before .before .before .before .before .before .before .args in
     let m = lent (a .t0 .now) (a .t1 .now) (a .queue .now) (a .detector .now) in
-    refused-by (a .self) m (c .before .before .fault .ensures) _ (c .before .if1 .taken) (c .reply .ensures)
-
-functions-requires : tie.Need-functions-requires
-functions-requires c κs = search needs
-
-rooms-requires : tie.Need-rooms-requires
-rooms-requires c κs = search needs
+    refused-by (a .self) m (c .before .before .before .before .functions .ensures) (c .before .before .before .rooms .ensures) (c .before .before .fault .ensures) _ (c .before .if1 .taken) (c .reply .ensures)
 
 define-requires : tie.Need-define-requires
 define-requires c κs =
     let a = c .before .before .before .before .before .before .before .before .before .before .before .before .args in
     let m = lent (a .t0 .now) (a .t1 .now) (a .queue .now) (a .detector .now) in
-    fits-by (a .self) m (c .before .before .before .before .before .before .before .fault .ensures) (c .before .before .before .before .before .before .if1 .left) (c .before .before .before .before .before .functions .ensures) (c .before .before .before .before .rooms .ensures)
+    fits-by (a .self) m (c .before .before .before .before .before .before .before .functions .ensures) (c .before .before .before .before .before .before .rooms .ensures) (c .before .before .before .before .before .fault .ensures) (c .before .before .before .before .if1 .left)
 
 after-requires : tie.Need-after-requires
 after-requires c κs = search needs
@@ -52,17 +52,17 @@ unfolding defined
 returns-2 c =
     let a = c .before .before .before .before .before .before .before .before .before .before .before .before .before .before .before .before .before .before .before .before .before .before .args in
     let m = lent (a .t0 .now) (a .t1 .now) (a .queue .now) (a .detector .now) in
-    leaves-by (a .self) m (c .before .before .before .before .before .before .before .before .before .before .before .before .before .before .before .before .before .fault .ensures) (c .before .before .before .before .before .before .before .before .before .before .before .before .before .before .before .before .if1 .left) (c .before .before .before .before .before .before .before .before .before .before .before .before .before .before .before .functions .ensures) (c .before .before .before .before .before .before .before .before .before .before .before .before .before .before .rooms .ensures) (c .after .ensures) (λ n s. define n (a .x) (a .v) s) (c .before .before .before .before .before .before .before .before .before .define .ensures)
+    leaves-by (a .self) m (c .before .before .before .before .before .before .before .before .before .before .before .before .before .before .before .before .before .functions .ensures) (c .before .before .before .before .before .before .before .before .before .before .before .before .before .before .before .before .rooms .ensures) (c .before .before .before .before .before .before .before .before .before .before .before .before .before .before .before .fault .ensures) (c .before .before .before .before .before .before .before .before .before .before .before .before .before .before .if1 .left) (c .after .ensures) (λ n s. define n (a .x) (a .v) s) (c .before .before .before .before .before .before .before .before .before .define .ensures)
 
 pub define-spec : {M : Type 1} → statement M
 define-spec =
     tie.close
     (tie.spec
+    functions-requires
+    rooms-requires
     fault-requires
     reply-requires
     returns
-    functions-requires
-    rooms-requires
     define-requires
     after-requires
     same-length

@@ -1,14 +1,10 @@
+-- `faults::fault` meets its contract: the first test that fails names the refusal. Assumes nothing.
 use mathlib.Core.Path.{sym, _∙_}
 use borrow.Author.Tests.{not-true, not-false}
-use Rattle.store.specs.Refusals.{filled}
-use Rattle.store.specs.Inner.{faultOf}
+use Rattle.faults.specs.Faults.{withinRooms, faultOf}
 use borrow.Author.Needs.{needs}
-use Rattle.store.proofs.Control.fault.Statement.{statement}
-use Rattle.store.proofs.Control.fault.Tie as tie
-use Rattle.store.proofs.Control.fault.Reads as reads
-use Rattle.store.proofs.Control.fault.Lts as lts
-use Rattle.store.proofs.Control.in_range.Reads as in-range-reads
-use Rattle.store.proofs.Control.sized.Reads as sized-reads
+use Rattle.faults.proofs.fault.Statement.{statement}
+use Rattle.faults.proofs.fault.Tie as tie
 
 in-range-requires : tie.Need-in-range-requires
 in-range-requires c κs = search needs
@@ -25,11 +21,11 @@ unfolding faultOf
 returns-2 c = simp (sym (c .before .before .before .in-range .ensures) ∙ not-false _ (c .before .before .if1 .left), sym (c .before .sized .ensures) ∙ not-true _ (c .if2 .taken))
 
 returns-3 : tie.Need-returns-3
-unfolding faultOf filled
+unfolding faultOf withinRooms
 returns-3 c = simp (sym (c .before .before .before .before .before .before .in-range .ensures) ∙ not-false _ (c .before .before .before .before .before .if1 .left), sym (c .before .before .before .before .sized .ensures) ∙ not-false _ (c .before .before .before .if2 .left), c .if3 .taken)
 
 returns-4 : tie.Need-returns-4
-unfolding faultOf filled
+unfolding faultOf withinRooms
 returns-4 c = simp (sym (c .before .before .before .before .before .before .in-range .ensures) ∙ not-false _ (c .before .before .before .before .before .if1 .left), sym (c .before .before .before .before .sized .ensures) ∙ not-false _ (c .before .before .before .if2 .left), c .if3 .left)
 
 pub fault-spec : {M : Type 1} → statement M

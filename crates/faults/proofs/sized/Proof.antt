@@ -1,10 +1,9 @@
+-- `faults::sized` meets its contract: the code's test is the definition's. Assumes nothing.
 use mathlib.Core.Path.{refl}
-use Rattle.store.specs.Refusals.{sized}
+use Rattle.faults.specs.Faults.{lengthsFit}
 use borrow.Author.Needs.{needs}
-use Rattle.store.proofs.Control.sized.Statement.{statement}
-use Rattle.store.proofs.Control.sized.Tie as tie
-use Rattle.store.proofs.Control.sized.Reads as reads
-use Rattle.store.proofs.Control.sized.Lts as lts
+use Rattle.faults.proofs.sized.Statement.{statement}
+use Rattle.faults.proofs.sized.Tie as tie
 
 cast-r : tie.Need-cast-r
 cast-r c = search needs
@@ -28,7 +27,7 @@ mul-result-4 : tie.Need-mul-result-4
 mul-result-4 c = search needs
 
 returns : tie.Need-returns
-unfolding sized
+unfolding lengthsFit
 returns c = refl
 
 pub sized-spec : {M : Type 1} → statement M
