@@ -26,8 +26,8 @@ use Rattle.layout.specs.Memory.{Lent, lent, wordsIn}
 use Rattle.numbers.specs.declared.Rooms.{Rooms}
 use Rattle.finding.specs.declared.Done.{Done}
 use Rattle.finding.specs.Inner.{numbersOf, storeOf, withLens, Outcome, outcome, answered, leaves, FitIn}
-use Rattle.adding.specs.Ran.{ranOutcome}
-use Rattle.adding.proofs.Lying.{held-fit, held-ready}
+use Rattle.settling.specs.Ran.{ranOutcome}
+use Rattle.settling.proofs.Lying.{held-fit, held-ready}
 
 -- the entry (x, v, 0) put behind those that wait
 module _ (f : Functions) (c : Rooms) (x v : ℕ) (t0 t1 q d q′ : List ℕ) (more : c .«queue_len» < c .«queue_room») (fit : FitIn f c (lent t0 t1 q d))

@@ -1,3 +1,2 @@
-pub mod Lying
-pub mod Settling
 pub mod Defining
+pub mod Seating

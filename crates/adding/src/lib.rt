@@ -1,71 +1,14 @@
-// Define and settle, the record and the lengths being accepted. Inner functions: their callers show what they require.
+// Define, the record and the lengths being accepted. Inner functions: their callers show what they require.
 ghost use mathlib.Core.Path.{_≡_};
-ghost use Prim.Native.Nat.{ℕ, _≤_, _<_};
+ghost use Prim.Native.Nat.{ℕ, _<_};
 ghost use Rattle.rules.specs.Run.{run};
-ghost use Rattle.rules.specs.Calls.{joined, define, settle};
+ghost use Rattle.rules.specs.Calls.{joined, define};
 ghost use Rattle.layout.specs.Memory.{lent};
-ghost use Rattle.kinds.specs.Shape.{Ready};
 ghost use Rattle.finding.specs.Inner.{numbersOf, storeOf, outcome, leaves, FitIn};
-ghost use Rattle.adding.specs.Ran.{ranOutcome};
+ghost use Rattle.settling.specs.Ran.{ranOutcome};
 use finding::Done;
 use numbers::Functions;
 use numbers::Rooms;
-
-// Steps until the budget is spent or nothing waits.
-fn run_out(
-    f: Functions,
-    c: Rooms,
-    budget: u32,
-    t0: &mut [u32],
-    t1: &mut [u32],
-    queue: &mut [u32],
-    detector: &mut [u32],
-) -> Done
-    requires { ⌜ budget ≤ 64 ⌝ }
-    requires { ⌜ FitIn f c (lent (now t0) (now t1) (now queue) (now detector)) ⌝ }
-    requires { ⌜ Ready (c .«queue_len») (c .«detector_len») (now queue) (now detector) ⌝ }
-    ensures { λ a. ⌜ outcome (lent (now (t0 .exit)) (now (t1 .exit)) (now (queue .exit)) (now (detector .exit))) a ≡ ranOutcome c (run (numbersOf f c) budget (storeOf f c (lent (now (t0 .entry)) (now (t1 .entry)) (now (queue .entry)) (now (detector .entry))))) ⌝ }
-{
-    let e = steps::run_steps(
-        f,
-        c.detector_room,
-        budget,
-        c.queue_len,
-        c.detector_len,
-        t0,
-        t1,
-        queue,
-        detector,
-    );
-    Done {
-        queue_len: e.queue_len,
-        detector_len: e.detector_len,
-        number: 0,
-        value: 0,
-        steps: e.steps,
-        moves: e.moves,
-    }
-}
-
-// Settle n: steps run until n are done or the queue is empty.
-pub fn settle(
-    f: Functions,
-    c: Rooms,
-    n: u32,
-    t0: &mut [u32],
-    t1: &mut [u32],
-    queue: &mut [u32],
-    detector: &mut [u32],
-) -> Done
-    requires { ⌜ FitIn f c (lent (now t0) (now t1) (now queue) (now detector)) ⌝ }
-    ensures { λ a. ⌜ outcome (lent (now (t0 .exit)) (now (t1 .exit)) (now (queue .exit)) (now (detector .exit))) a ≡ leaves c (lent (now (t0 .entry)) (now (t1 .entry)) (now (queue .entry)) (now (detector .entry))) (settle (numbersOf f c) n (storeOf f c (lent (now (t0 .entry)) (now (t1 .entry)) (now (queue .entry)) (now (detector .entry))))) ⌝ }
-{
-    if c.step_limit < n {
-        return finding::reply(c, 8, 0);
-    }
-    layout::tidy(queue, c.queue_len, detector, c.detector_len);
-    run_out(f, c, n, t0, t1, queue, detector)
-}
 
 // The places past the lengths are cleared, the entry (x, v, 0) joins the back of the queue, which has room, then steps run until L are done or the queue is empty.
 fn join(
@@ -85,7 +28,38 @@ fn join(
     layout::tidy(queue, c.queue_len, detector, c.detector_len);
     words::put_three(queue, 3 * (c.queue_len as usize), x, v, 0);
     c.queue_len = c.queue_len + 1;
-    run_out(f, c, c.step_limit, t0, t1, queue, detector)
+    settling::run_out(f, c, c.step_limit, t0, t1, queue, detector)
+}
+
+// As `join`; if nothing waits and the key's home in table 0 is free, that cell takes it at once, which is its one step.
+fn seat(
+    f: Functions,
+    c: Rooms,
+    x: u32,
+    v: u32,
+    t0: &mut [u32],
+    t1: &mut [u32],
+    queue: &mut [u32],
+    detector: &mut [u32],
+) -> Done
+    requires { ⌜ c .«queue_len» < c .«queue_room» ⌝ }
+    requires { ⌜ FitIn f c (lent (now t0) (now t1) (now queue) (now detector)) ⌝ }
+    ensures { λ a. ⌜ outcome (lent (now (t0 .exit)) (now (t1 .exit)) (now (queue .exit)) (now (detector .exit))) a ≡ ranOutcome c (run (numbersOf f c) (c .«step_limit») (joined x v (storeOf f c (lent (now (t0 .entry)) (now (t1 .entry)) (now (queue .entry)) (now (detector .entry)))))) ⌝ }
+{
+    let i = f.in_table0(x) as usize;
+    if (c.queue_len == 0) & (t0[2 * i] == 0) {
+        words::put_two(t0, 2 * i, x, v);
+        layout::tidy(queue, 0, detector, 0);
+        return Done {
+            queue_len: 0,
+            detector_len: 0,
+            number: 0,
+            value: 0,
+            steps: 1,
+            moves: 0,
+        };
+    }
+    join(f, c, x, v, t0, t1, queue, detector)
 }
 
 // Define: the entry (x, v, 0) joins the queue, then steps run, unless find would find the key or the queue is full.
@@ -112,5 +86,5 @@ pub fn define(
     if c.queue_room <= c.queue_len {
         return finding::reply(c, 6, 0);
     }
-    join(f, c, x, v, t0, t1, queue, detector)
+    seat(f, c, x, v, t0, t1, queue, detector)
 }

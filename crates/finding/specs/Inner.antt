@@ -68,6 +68,7 @@ pub record RoomsFit (c : Rooms) (nq nd : ℕ) : Type 0 where
 pub record Fit (f : Functions) (c : Rooms) (n0 n1 nq nd : ℕ) : Type 0 where
   pub some : 0 < f .r
   pub small : f .r ≤ 32768
+  pub limit-some : 1 ≤ c .«step_limit»
   pub limit-small : c .«step_limit» ≤ 64
   pub first : n0 ≡ 2 * f .r
   pub second : n1 ≡ 2 * f .r

@@ -29,6 +29,7 @@ no-fault c n0 n1 nq nd h =
     record {
       some = r .some;
       small = r .small;
+      limit-some = r .limit-some;
       limit-small = r .limit-small;
       first = s .first;
       second = s .second;

@@ -123,7 +123,7 @@ impl Control {
         if k != 0 {
             return self.reply(k, 0);
         }
-        self.after(adding::settle(f, c, n, t0, t1, queue, detector))
+        self.after(settling::settle(f, c, n, t0, t1, queue, detector))
     }
 
     // Define: the entry (key, value, 0) joins the back of the queue, then steps run until L are done or the queue is empty.

@@ -58,8 +58,8 @@ returns-3 c =
     let a = c .before .before .before .before .before .before .before .before .before .before .before .before .before .before .before .args in
     refuses-full (a .f) (a .c) (a .x) (a .v) (a .t0 .now) (a .t1 .now) (a .queue .now) (a .detector .now) _ (c .before .before .before .before .before .before .before .find .ensures) (c .before .before .before .before .before .if1 .left) (c .before .before .before .if2 .left) (c .before .if3 .taken) (c .reply3 .ensures)
 
-join-requires : tie.Need-join-requires
-join-requires c κs = search needs
+seat-requires : tie.Need-seat-requires
+seat-requires c κs = search needs
 
 same-length-10 : tie.Need-same-length-10
 same-length-10 c = search needs
@@ -77,7 +77,7 @@ returns-4 : tie.Need-returns-4
 returns-4 c =
     let s = c .before .before .before .before .before .before .before .before .before .before .before .before .before .before .before .before .before .before .before .before .before .before .before .before .before .before .before in
     let a = s .args in
-    defines (a .f) (a .c) (a .x) (a .v) (a .t0 .now) (a .t1 .now) (a .queue .now) (a .detector .now) _ (c .before .before .before .before .before .before .before .before .before .before .before .before .before .before .before .before .before .before .before .find .ensures) (c .before .before .before .before .before .before .before .before .before .before .before .before .before .before .before .before .before .if1 .left) (c .before .before .before .before .before .before .before .before .before .before .before .before .before .before .before .if2 .left) (c .before .before .before .before .before .before .before .before .before .before .before .before .before .if3 .left) (c .before .before .before .before .before .before .before .before .join .ensures)
+    defines (a .f) (a .c) (a .x) (a .v) (a .t0 .now) (a .t1 .now) (a .queue .now) (a .detector .now) _ (c .before .before .before .before .before .before .before .before .before .before .before .before .before .before .before .before .before .before .before .find .ensures) (c .before .before .before .before .before .before .before .before .before .before .before .before .before .before .before .before .before .if1 .left) (c .before .before .before .before .before .before .before .before .before .before .before .before .before .before .before .if2 .left) (c .before .before .before .before .before .before .before .before .before .before .before .before .before .if3 .left) (c .before .before .before .before .before .before .before .before .seat .ensures)
 
 pub define-spec : {M : Type 1} → statement M
 define-spec =
@@ -99,7 +99,7 @@ define-spec =
     same-length-8
     same-length-9
     returns-3
-    join-requires
+    seat-requires
     same-length-10
     same-length-11
     same-length-12

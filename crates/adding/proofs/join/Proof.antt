@@ -2,7 +2,7 @@
 -- `run_out` runs from there. Assumes nothing.
 use native.Mathlib.Omega.{arith}
 use Rattle.adding.proofs.Defining.{joined-fit, joined-ready, joined-runs}
-use Rattle.adding.proofs.Lying.{tidied-fit, tidied-ready, tidied-store}
+use Rattle.settling.proofs.Lying.{tidied-fit, tidied-ready, tidied-store}
 use borrow.Author.Needs.{needs}
 use Rattle.adding.proofs.join.Statement.{statement}
 use Rattle.adding.proofs.join.Tie as tie

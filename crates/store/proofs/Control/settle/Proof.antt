@@ -1,4 +1,4 @@
--- `store::Control::settle` meets its contract: refusals 1 to 3, else what `adding::settle` gives. Assumes nothing.
+-- `store::Control::settle` meets its contract: refusals 1 to 3, else what `settling::settle` gives. Assumes nothing.
 use Rattle.rules.specs.Calls.{settle}
 use Rattle.layout.specs.Memory.{lent}
 use Rattle.store.specs.Calls.{settled}

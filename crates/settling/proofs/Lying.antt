@@ -19,7 +19,7 @@ use Rattle.layout.specs.Memory.{Lent, lent, wordsIn, Tidied}
 use Rattle.numbers.specs.declared.Rooms.{Rooms}
 use Rattle.finding.specs.declared.Done.{Done}
 use Rattle.finding.specs.Inner.{numbersOf, storeOf, wordsOf, withLens, Outcome, outcome, answered, FitIn}
-use Rattle.adding.specs.Ran.{ranOutcome}
+use Rattle.settling.specs.Ran.{ranOutcome}
 
 -- an outcome by its five parts
 pub as-one : {t0 t1 q d u0 u1 p e : List ℕ} {a b : Done} → t0 ≡ u0 → t1 ≡ u1 → q ≡ p → d ≡ e → a ≡ b → outcome (lent t0 t1 q d) a ≡ outcome (lent u0 u1 p e) b
@@ -47,6 +47,7 @@ module _ (f : Functions) (c : Rooms) (ql : ℕ) (t0 t1 q d q′ d′ : List ℕ)
       record {
         some = fit .some;
         small = fit .small;
+        limit-some = fit .limit-some;
         limit-small = fit .limit-small;
         first = fit .first;
         second = fit .second;

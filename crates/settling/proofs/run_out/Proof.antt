@@ -1,11 +1,11 @@
--- `adding::run_out` meets its contract: the words of a run are its outcome. Assumes nothing.
+-- `settling::run_out` meets its contract: the words of a run are its outcome. Assumes nothing.
 use native.Mathlib.Omega.{arith}
 use Rattle.layout.specs.Memory.{lent}
 use Rattle.finding.proofs.Fits.{tables-ready}
-use Rattle.adding.proofs.Lying.{runs-with, ran-out}
+use Rattle.settling.proofs.Lying.{runs-with, ran-out}
 use borrow.Author.Needs.{needs}
-use Rattle.adding.proofs.run_out.Statement.{statement}
-use Rattle.adding.proofs.run_out.Tie as tie
+use Rattle.settling.proofs.run_out.Statement.{statement}
+use Rattle.settling.proofs.run_out.Tie as tie
 
 run-steps-requires : tie.Need-run-steps-requires
 run-steps-requires c κs =
