@@ -9,47 +9,13 @@
 extern "C" {
 #endif
 
-kt_answer limit_open(kt_record record,
-                     uint32_t *table0, size_t table0_words,
-                     uint32_t *table1, size_t table1_words,
-                     uint32_t *queue, size_t queue_words,
-                     uint32_t *detector, size_t detector_words);
-
-kt_answer limit_find(kt_record record, uint32_t key,
-                     const uint32_t *table0, size_t table0_words,
-                     const uint32_t *table1, size_t table1_words,
-                     const uint32_t *queue, size_t queue_words,
-                     const uint32_t *detector, size_t detector_words);
-
-kt_answer limit_define(kt_record record, uint32_t key, uint32_t value,
-                       uint32_t *table0, size_t table0_words,
-                       uint32_t *table1, size_t table1_words,
-                       uint32_t *queue, size_t queue_words,
-                       uint32_t *detector, size_t detector_words);
-
-kt_answer limit_change(kt_record record, uint32_t key, uint32_t value,
-                       uint32_t *table0, size_t table0_words,
-                       uint32_t *table1, size_t table1_words,
-                       uint32_t *queue, size_t queue_words,
-                       uint32_t *detector, size_t detector_words);
-
-kt_answer limit_remove(kt_record record, uint32_t key,
-                       uint32_t *table0, size_t table0_words,
-                       uint32_t *table1, size_t table1_words,
-                       uint32_t *queue, size_t queue_words,
-                       uint32_t *detector, size_t detector_words);
-
-kt_answer limit_settle(kt_record record, uint32_t n,
-                       uint32_t *table0, size_t table0_words,
-                       uint32_t *table1, size_t table1_words,
-                       uint32_t *queue, size_t queue_words,
-                       uint32_t *detector, size_t detector_words);
-
-kt_answer limit_check(kt_record record,
-                      const uint32_t *table0, size_t table0_words,
-                      const uint32_t *table1, size_t table1_words,
-                      const uint32_t *queue, size_t queue_words,
-                      const uint32_t *detector, size_t detector_words);
+extern __typeof__(kt_open) limit_open;
+extern __typeof__(kt_find) limit_find;
+extern __typeof__(kt_define) limit_define;
+extern __typeof__(kt_change) limit_change;
+extern __typeof__(kt_remove) limit_remove;
+extern __typeof__(kt_settle) limit_settle;
+extern __typeof__(kt_check) limit_check;
 
 #ifdef __cplusplus
 }

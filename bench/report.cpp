@@ -293,8 +293,9 @@ void print_scan(const Report &report)
 void print_compared(const Compared &compared)
 {
     std::printf("## The limit answers as the store does\n\n");
-    std::printf("Before anything is timed, %s random calls run on both, and every answer field, record and word is"
-                " compared. Calls by the number that they were answered with:\n\n",
+    std::printf("Before anything is timed, %s random calls run on both. Every answer field and record is compared after"
+                " each; every word after each call on small stores, and after every 1,000 keys on stores of the"
+                " measured sizes. Calls by the number that they were answered with:\n\n",
                 grouped(static_cast<double>(compared.calls)).c_str());
     std::vector<std::string> numbers, counts;
     for (size_t i = 0; i < compared.by_number.size(); i++) {

@@ -1,6 +1,6 @@
 #!/usr/bin/env python3
 """The stored cases of the case program: inputs, and the listings that a second version of document 01 gives for them.
-Written from the page alone, with lists and tuples and no word layout; nothing here reads the proved program's output."""
+Written after the page, with lists and tuples and no word layout; nothing here reads the proved program's output."""
 import os, random, struct, sys
 
 P = 2147483647

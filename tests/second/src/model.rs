@@ -1,4 +1,4 @@
-//! The second version of the key table, written from the page alone.
+//! The second version of the key table, written from the page and no source of the library.
 //!
 //! Each call reads the lent words into a `Store` of plain things (cells, a queue of entries, a
 //! list of marks), acts on it and writes it back. A refused call never gets as far as writing.
