@@ -20,8 +20,7 @@ use Rattle.layout.specs.Memory.{Lent, lent, wordsIn, Tidied}
 use Rattle.layout.proofs.Forms.{cell-lawful, length-readMany, write-all, write-set}
 use Rattle.kinds.specs.Shape.{cellsIn, entriesIn, entry}
 use Rattle.steps.proofs.InTable.{cell-read}
-use Rattle.finding.specs.declared.Done.{Done}
-use Rattle.finding.specs.Inner.{numbersOf, storeOf, Outcome, outcome, answered, withLens, FitIn}
+use Rattle.finding.specs.Inner.{numbersOf, storeOf, Outcome, outcome, answered, withLens, FitIn, Told, tells}
 use Rattle.settling.specs.Ran.{ranOutcome}
 
 -- the rules: one step, of kind 1
@@ -61,12 +60,12 @@ module _ (f : Functions) (c : Rooms) (x v : ℕ) (t0 t1 q d : List ℕ) {i : ℕ
   free-home : cellAt (storeOf f c (lent t0 t1 q d) .tables) table-0 (home0 f x) .key ≡ 0
   free-home = rw (sym home) (ap (λ (e : Cell). e .key) (cell-read (f .r) i t0 inside) ∙ free)
 
-  pub seated-at-once : {t q′ d′ : List ℕ} → t ≡ sets t0 (2 * i) (x ∷ v ∷ []) → Tidied 0 0 q d q′ d′
-      → outcome (lent t t1 q′ d′) (answered (withLens c 0 0) (answer 0 0 1 0)) ≡ ranOutcome c (run (numbersOf f c) (c .«step_limit») (joined x v (storeOf f c (lent t0 t1 q d))))
+  pub seated-at-once : {t q′ d′ : List ℕ} {a : Told} → t ≡ sets t0 (2 * i) (x ∷ v ∷ []) → Tidied 0 0 q d q′ d′ → a ≡ tells 0 0 0 0 1 0
+      → outcome (lent t t1 q′ d′) a ≡ ranOutcome c (run (numbersOf f c) (c .«step_limit») (joined x v (storeOf f c (lent t0 t1 q d))))
   unfolding wordsIn readMany
-  seated-at-once e tidy =
+  seated-at-once e tidy is =
       (λ j. outcome (lent ((e ∙ cell-written (f .r) i x v t0 (fit .first) inside ∙ ap (λ k. writeMany cellForm (set (cellsIn (f .r) t0) k (record { key = x; value = v }))) home) j)
       (sym (write-all cellForm cell-lawful (f .r) t1 (fit .second)) j)
       ((tidy .queue ∙ ap (λ k. packed entryForm k []) (fit .rooms .queue)) j) ((tidy .detector ∙ ap (λ k. packed pairForm k []) (fit .rooms .detector)) j))
-      (answered (withLens c 0 0) (answer 0 0 1 0)))
+      (is j))
       ∙ ap (ranOutcome c) (sym (seats (numbersOf f c) x v (storeOf f c (lent t0 t1 q d)) waits-none free-home (c .«step_limit») (fit .limit-some)))

@@ -4,7 +4,7 @@ ghost use Prim.Native.Nat.{ℕ, _<_};
 ghost use Rattle.rules.specs.Run.{run};
 ghost use Rattle.rules.specs.Calls.{joined, define};
 ghost use Rattle.layout.specs.Memory.{lent};
-ghost use Rattle.finding.specs.Inner.{numbersOf, storeOf, outcome, leaves, FitIn};
+ghost use Rattle.finding.specs.Inner.{numbersOf, storeOf, outcome, leaves, FitIn, toldBy};
 ghost use Rattle.settling.specs.Ran.{ranOutcome};
 use finding::Done;
 use numbers::Functions;
@@ -23,7 +23,7 @@ fn join(
 ) -> Done
     requires { ⌜ c .«queue_len» < c .«queue_room» ⌝ }
     requires { ⌜ FitIn f c (lent (now t0) (now t1) (now queue) (now detector)) ⌝ }
-    ensures { λ a. ⌜ outcome (lent (now (t0 .exit)) (now (t1 .exit)) (now (queue .exit)) (now (detector .exit))) a ≡ ranOutcome c (run (numbersOf f c) (c .«step_limit») (joined x v (storeOf f c (lent (now (t0 .entry)) (now (t1 .entry)) (now (queue .entry)) (now (detector .entry)))))) ⌝ }
+    ensures { λ a. ⌜ outcome (lent (now (t0 .exit)) (now (t1 .exit)) (now (queue .exit)) (now (detector .exit))) (toldBy a) ≡ ranOutcome c (run (numbersOf f c) (c .«step_limit») (joined x v (storeOf f c (lent (now (t0 .entry)) (now (t1 .entry)) (now (queue .entry)) (now (detector .entry)))))) ⌝ }
 {
     layout::tidy(queue, c.queue_len, detector, c.detector_len);
     words::put_three(queue, 3 * (c.queue_len as usize), x, v, 0);
@@ -44,20 +44,13 @@ fn seat(
 ) -> Done
     requires { ⌜ c .«queue_len» < c .«queue_room» ⌝ }
     requires { ⌜ FitIn f c (lent (now t0) (now t1) (now queue) (now detector)) ⌝ }
-    ensures { λ a. ⌜ outcome (lent (now (t0 .exit)) (now (t1 .exit)) (now (queue .exit)) (now (detector .exit))) a ≡ ranOutcome c (run (numbersOf f c) (c .«step_limit») (joined x v (storeOf f c (lent (now (t0 .entry)) (now (t1 .entry)) (now (queue .entry)) (now (detector .entry)))))) ⌝ }
+    ensures { λ a. ⌜ outcome (lent (now (t0 .exit)) (now (t1 .exit)) (now (queue .exit)) (now (detector .exit))) (toldBy a) ≡ ranOutcome c (run (numbersOf f c) (c .«step_limit») (joined x v (storeOf f c (lent (now (t0 .entry)) (now (t1 .entry)) (now (queue .entry)) (now (detector .entry)))))) ⌝ }
 {
     let i = f.in_table0(x) as usize;
     if (c.queue_len == 0) & (t0[2 * i] == 0) {
         words::put_two(t0, 2 * i, x, v);
         layout::tidy(queue, 0, detector, 0);
-        return Done {
-            queue_len: 0,
-            detector_len: 0,
-            number: 0,
-            value: 0,
-            steps: 1,
-            moves: 0,
-        };
+        return Done::of(0, 0, 0, 0, 1, 0);
     }
     join(f, c, x, v, t0, t1, queue, detector)
 }
@@ -74,14 +67,14 @@ pub fn define(
     detector: &mut [u32],
 ) -> Done
     requires { ⌜ FitIn f c (lent (now t0) (now t1) (now queue) (now detector)) ⌝ }
-    ensures { λ a. ⌜ outcome (lent (now (t0 .exit)) (now (t1 .exit)) (now (queue .exit)) (now (detector .exit))) a ≡ leaves c (lent (now (t0 .entry)) (now (t1 .entry)) (now (queue .entry)) (now (detector .entry))) (define (numbersOf f c) x v (storeOf f c (lent (now (t0 .entry)) (now (t1 .entry)) (now (queue .entry)) (now (detector .entry))))) ⌝ }
+    ensures { λ a. ⌜ outcome (lent (now (t0 .exit)) (now (t1 .exit)) (now (queue .exit)) (now (detector .exit))) (toldBy a) ≡ leaves c (lent (now (t0 .entry)) (now (t1 .entry)) (now (queue .entry)) (now (detector .entry))) (define (numbersOf f c) x v (storeOf f c (lent (now (t0 .entry)) (now (t1 .entry)) (now (queue .entry)) (now (detector .entry))))) ⌝ }
 {
-    let found = finding::find(f, c, x, t0, t1, queue);
-    if found.number == 0 {
-        return finding::reply(c, 5, found.value);
-    }
-    if found.number == 4 {
+    if !numbers::is_key(x) {
         return finding::reply(c, 4, 0);
+    }
+    let s = finding::search(f, c, x, t0, t1, queue);
+    if s.number == 0 {
+        return finding::reply(c, 5, s.value);
     }
     if c.queue_room <= c.queue_len {
         return finding::reply(c, 6, 0);

@@ -13,11 +13,10 @@ use Rattle.rules.specs.Search.{search, lookup}
 use Rattle.rules.specs.Calls.{answer, change}
 use Rattle.layout.specs.Memory.{Lent, lent}
 use Rattle.numbers.specs.declared.Rooms.{Rooms}
-use Rattle.finding.specs.declared.Done.{Done}
 use Rattle.finding.specs.declared.Place.{Place}
 use Rattle.finding.specs.declared.Place.the-variants.{Table0, Table1, Waiting, Nowhere}
-use Rattle.finding.specs.Inner.{numbersOf, storeOf, answered, Outcome, outcome, placeOf, Located}
-use Rattle.finding.proofs.Searching.{valueIn, replyOf, held}
+use Rattle.finding.specs.Inner.{numbersOf, storeOf, answered, Outcome, outcome, placeOf, Located, valueIn, replyOf, Told}
+use Rattle.finding.proofs.Searching.{held}
 use Rattle.changing.specs.Change.{putValue, changing, Exchanged}
 
 module _ (n : Numbers) (x v : ℕ) (s : Store) where
@@ -47,7 +46,7 @@ module _ (f : Functions) (c : Rooms) (x v : ℕ) (t0 t1 q d : List ℕ) {k : Boo
   abbrev Changes : Outcome → Type 0
   Changes o = o ≡ changing f c x v m (change (numbersOf f c) x v (storeOf f c m) .answer)
 
-  pub changes-bad : {a : Done} → not k ≡ true → a ≡ answered c (answer 4 0 0 0) → Changes (outcome m a)
+  pub changes-bad : {a : Told} → not k ≡ true → a ≡ answered c (answer 4 0 0 0) → Changes (outcome m a)
   unfolding changing
   changes-bad bad e = ap (outcome m) e ∙ rw (change-refuses (numbersOf f c) x v (storeOf f c m) (sym test ∙ not-true k bad))
 
@@ -56,14 +55,14 @@ module _ (f : Functions) (c : Rooms) (x v : ℕ) (t0 t1 q d : List ℕ) {k : Boo
     changes-at p at =
         sym (ap (changing f c x v m) (change-answers (numbersOf f c) x v (storeOf f c m) (valueIn m p) (sym test ∙ not-false k good) (held test good at)) ∙ changing-at f c x v m p (at .is))
 
-    pub changes-first : {i : ℕ} {t : List ℕ} {a : Done} → Located f c x m (Table0 i) → Exchanged c 2 i v t0 t a → Changes (outcome (lent t t1 q d) a)
+    pub changes-first : {i : ℕ} {t : List ℕ} {a : Told} → Located f c x m (Table0 i) → Exchanged c 2 i v t0 t a → Changes (outcome (lent t t1 q d) a)
     changes-first {i} at e = (λ j. outcome (lent (e .words j) t1 q d) (e .answer j)) ∙ changes-at (Table0 i) at
 
-    pub changes-second : {i : ℕ} {t : List ℕ} {a : Done} → Located f c x m (Table1 i) → Exchanged c 2 i v t1 t a → Changes (outcome (lent t0 t q d) a)
+    pub changes-second : {i : ℕ} {t : List ℕ} {a : Told} → Located f c x m (Table1 i) → Exchanged c 2 i v t1 t a → Changes (outcome (lent t0 t q d) a)
     changes-second {i} at e = (λ j. outcome (lent t0 (e .words j) q d) (e .answer j)) ∙ changes-at (Table1 i) at
 
-    pub changes-waiting : {i : ℕ} {t : List ℕ} {a : Done} → Located f c x m (Waiting i) → Exchanged c 3 i v q t a → Changes (outcome (lent t0 t1 t d) a)
+    pub changes-waiting : {i : ℕ} {t : List ℕ} {a : Told} → Located f c x m (Waiting i) → Exchanged c 3 i v q t a → Changes (outcome (lent t0 t1 t d) a)
     changes-waiting {i} at e = (λ j. outcome (lent t0 t1 (e .words j) d) (e .answer j)) ∙ changes-at (Waiting i) at
 
-    pub changes-none : {a : Done} → Located f c x m Nowhere → a ≡ answered c (answer 7 0 0 0) → Changes (outcome m a)
+    pub changes-none : {a : Told} → Located f c x m Nowhere → a ≡ answered c (answer 7 0 0 0) → Changes (outcome m a)
     changes-none at e = ap (outcome m) e ∙ changes-at Nowhere at

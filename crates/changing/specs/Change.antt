@@ -11,8 +11,7 @@ use Rattle.rules.specs.Calls.{Answer as RulesAnswer, answer}
 use Rattle.rules.specs.Keeps.{isAccepted}
 use Rattle.layout.specs.Memory.{Lent, lent}
 use Rattle.numbers.specs.declared.Rooms.{Rooms}
-use Rattle.finding.specs.declared.Done.{Done}
-use Rattle.finding.specs.Inner.{numbersOf, storeOf, answered, Outcome, keeps}
+use Rattle.finding.specs.Inner.{numbersOf, storeOf, answered, Outcome, keeps, Told}
 
 -- the words with another value at a place: places past the lengths stay as they are
 abbrev pub putValue : Place → ℕ → Lent → Lent
@@ -26,6 +25,6 @@ unfoldable pub changing : Functions → Rooms → ℕ → ℕ → Lent → Rules
 changing f c x v m a = cond (isAccepted a) (keeps c (putValue (search (numbersOf f c) x (storeOf f c m)) v m) a) (keeps c m a)
 
 -- another value in entry i of width w, the old one answered
-pub record Exchanged (c : Rooms) (w i v : ℕ) (ws ws′ : List ℕ) (a : Done) : Type 0 where
+pub record Exchanged (c : Rooms) (w i v : ℕ) (ws ws′ : List ℕ) (a : Told) : Type 0 where
   pub words : ws′ ≡ set ws (w * i + 1) v
   pub answer : a ≡ answered c (answer 0 (getD ws (w * i + 1) 0) 0 0)

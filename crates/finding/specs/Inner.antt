@@ -1,18 +1,23 @@
 -- What the inner calls ask and give. A record's numbers come as two structs: `Functions` for the homes, `Rooms` for all others. Assumes nothing.
-use Prim.Native.Nat.{ℕ, _*_, _≤_, _<_}
+use Prim.Native.Nat.{ℕ, _+_, _*_, _/_, _%_, _≤_, _<_}
 use mathlib.Core.Path.{_≡_}
-use mathlib.Core.Bool.{cond}
-use lib.ListN.{length}
+use mathlib.Core.Bool.{Bool, cond, not, _&&_}
+use mathlib.Core.List.{List}
+use mathlib.Core.Option.{Option, none, some}
+use lib.Dec.{eqb}
+use lib.ListN.{length, getD}
 use Rattle.numbers.specs.declared.Functions.{Functions}
 use Rattle.rules.specs.Store.{table-0, table-1, Store, Numbers}
-use Rattle.rules.specs.Search.{Place as RulesPlace, inTable, waitingAt, nowhere, search}
-use Rattle.rules.specs.Calls.{Answer as RulesAnswer, Outcome as RulesOutcome}
+use Rattle.rules.specs.Search.{Place as RulesPlace, inTable, waitingAt, nowhere, searchQueue, search}
+use Rattle.rules.specs.Calls.{Answer as RulesAnswer, answer, Outcome as RulesOutcome}
 use Rattle.rules.specs.Keeps.{isAccepted}
-use Rattle.layout.specs.Memory.{Lent, wordsIn}
+use Rattle.layout.specs.Memory.{Lent, lent, wordsIn}
+use Rattle.kinds.specs.Shape.{entriesIn}
 use Rattle.steps.specs.Shape.{homesOf, storeIn}
 use Rattle.numbers.specs.declared.Rooms.{Rooms}
 use Rattle.finding.specs.declared.Done.{Done}
 use Rattle.finding.specs.declared.Place.{Place}
+use Rattle.finding.specs.declared.Seen.{Seen}
 use Rattle.finding.specs.declared.Place.the-variants.{Table0, Table1, Waiting, Nowhere}
 
 -- the numbers of a record
@@ -35,17 +40,33 @@ withLens c ql dl = record { «queue_room» = c .«queue_room»; «detector_room�
 abbrev pub roomsOf : Rooms → Store → Rooms
 roomsOf c s = withLens c (length (s .waiting)) (length (s .marked))
 
+-- what a call gives back: the lengths, and the fields of its answer
+pub record Told : Type 0 where
+  pub «queue_len» : ℕ
+  pub «detector_len» : ℕ
+  pub number : ℕ
+  pub value : ℕ
+  pub steps : ℕ
+  pub moves : ℕ
+
+abbrev pub tells : (ql dl number value steps moves : ℕ) → Told
+tells ql dl number value steps moves = record { «queue_len» = ql; «detector_len» = dl; number = number; value = value; steps = steps; moves = moves }
+
+-- the code keeps both lengths in one word, the detector's in the upper half
+unfoldable pub toldBy : Done → Told
+toldBy a = tells (a .lengths % 4294967296) (a .lengths / 4294967296) (a .number) (a .value) (a .steps) (a .moves)
+
 -- an answer of the rules, with the lengths
-abbrev pub answered : Rooms → RulesAnswer → Done
-answered c a = record { «queue_len» = c .«queue_len»; «detector_len» = c .«detector_len»; number = a .number; value = a .value; steps = a .steps; moves = a .moves }
+abbrev pub answered : Rooms → RulesAnswer → Told
+answered c a = tells (c .«queue_len») (c .«detector_len») (a .number) (a .value) (a .steps) (a .moves)
 
 -- what a call leaves in the buffers, and what it gives back
 pub record Outcome : Type 0 where
   pub lent : Lent
-  pub done : Done
+  pub told : Told
 
-abbrev pub outcome : Lent → Done → Outcome
-outcome m a = record { lent = m; done = a }
+abbrev pub outcome : Lent → Told → Outcome
+outcome m a = record { lent = m; told = a }
 
 -- the buffers and the lengths as they were
 abbrev pub keeps : Rooms → Lent → RulesAnswer → Outcome
@@ -91,6 +112,34 @@ inside f c (Table1 i) = i < f .r
 inside f c (Waiting j) = j < c .«queue_len»
 inside f c Nowhere = Unit {0}
 
+-- the place that the rules' search answers
 pub record Located (f : Functions) (c : Rooms) (x : ℕ) (m : Lent) (p : Place) : Type 0 where
   pub is : placeOf p ≡ search (numbersOf f c) x (storeOf f c m)
   pub within : inside f c p
+
+-- the word that holds the value at a place of the code
+abbrev pub valueIn : Lent → Place → Option ℕ
+valueIn m (Table0 i) = some (getD (m .table0) (2 * i + 1) 0)
+valueIn m (Table1 i) = some (getD (m .table1) (2 * i + 1) 0)
+valueIn m (Waiting j) = some (getD (m .queue) (3 * j + 1) 0)
+valueIn m Nowhere = none
+
+-- accepted with the value found, or refusal 7
+abbrev pub replyOf : Option ℕ → RulesAnswer
+replyOf (some v) = answer 0 v 0 0
+replyOf none = answer 7 0 0 0
+
+-- neither key is x
+abbrev pub isNeither : (k0 k1 x : ℕ) → Bool
+isNeither k0 k1 x = not (eqb k0 x) && not (eqb k1 x)
+
+-- what the code's search gives: that place, and find's answer to it
+pub record Sees (f : Functions) (c : Rooms) (x : ℕ) (m : Lent) (s : Seen) : Type 0 where
+  pub at : Located f c x m (s .place)
+  pub says : answer (s .number) (s .value) 0 0 ≡ replyOf (valueIn m (s .place))
+
+-- the same of the search through the queue, whatever the tables and the detector hold
+pub record SeesInQueue (c : Rooms) (x : ℕ) (q : List ℕ) (s : Seen) : Type 0 where
+  pub is : placeOf (s .place) ≡ searchQueue 0 x (entriesIn (c .«queue_len») q)
+  pub within : (f : Functions) → inside f c (s .place)
+  pub says : (t0 t1 d : List ℕ) → answer (s .number) (s .value) 0 0 ≡ replyOf (valueIn (lent t0 t1 q d) (s .place))

@@ -20,10 +20,9 @@ use Rattle.steps.proofs.InTable.{cell-read}
 use Rattle.numbers.specs.declared.Functions.{Functions}
 use Rattle.layout.specs.Memory.{Lent, lent, wordsIn, Tidied}
 use Rattle.numbers.specs.declared.Rooms.{Rooms}
-use Rattle.finding.specs.declared.Done.{Done}
 use Rattle.finding.specs.declared.Place.{Place}
 use Rattle.finding.specs.declared.Place.the-variants.{Table0, Table1, Waiting, Nowhere}
-use Rattle.finding.specs.Inner.{numbersOf, storeOf, withLens, answered, Outcome, outcome, leaves, RoomsFit, FitIn, Located}
+use Rattle.finding.specs.Inner.{numbersOf, storeOf, withLens, answered, Outcome, outcome, leaves, RoomsFit, FitIn, Located, Told}
 use Rattle.removing.specs.Gone.{CellGone, EntryGone}
 
 -- those before an entry and those behind it
@@ -52,7 +51,7 @@ entry-closed room n j es e h fits =
     ∙ ap (packed entryForm room) (sym (dropped es j k))
 
 -- the words tidied, then the entry's gap closed
-pub entry-gone : (c : Rooms) (j : ℕ) (q d q₁ d′ q′ : List ℕ) {a : Done} → j < c .«queue_len» → RoomsFit c (length q) (length d) → Tidied (c .«queue_len») (c .«detector_len») q d q₁ d′
+pub entry-gone : (c : Rooms) (j : ℕ) (q d q₁ d′ q′ : List ℕ) {a : Told} → j < c .«queue_len» → RoomsFit c (length q) (length d) → Tidied (c .«queue_len») (c .«detector_len») q d q₁ d′
     → q′ ≡ closed (3 * j) 3 (3 * c .«queue_len») q₁ → a ≡ answered (withLens c (c .«queue_len» - 1) (c .«detector_len»)) (answer 0 (getD q (3 * j + 1) 0) 0 0)
     → EntryGone c j q d q′ d′ a
 entry-gone c j q d q₁ d′ q′ h w t e is = record {
@@ -106,12 +105,12 @@ module _ (f : Functions) (c : Rooms) (x : ℕ) (t0 t1 q d : List ℕ) where
   abbrev Removes : Outcome → Type 0
   Removes o = o ≡ leaves c m (remove (numbersOf f c) x s)
 
-  pub refuses-bad : {a : Done} → goodKey x ≡ false → a ≡ answered c (answer 4 0 0 0) → Removes (outcome m a)
+  pub refuses-bad : {a : Told} → goodKey x ≡ false → a ≡ answered c (answer 4 0 0 0) → Removes (outcome m a)
   unfolding leaves
   refuses-bad bad e = ap (outcome m) e ∙ sym (ap (leaves c m) (remove-bad (numbersOf f c) x s bad))
 
   module _ (good : goodKey x ≡ true) where
-    pub refuses-absent : {a : Done} → Located f c x m Nowhere → a ≡ answered c (answer 7 0 0 0) → Removes (outcome m a)
+    pub refuses-absent : {a : Told} → Located f c x m Nowhere → a ≡ answered c (answer 7 0 0 0) → Removes (outcome m a)
     unfolding leaves
     refuses-absent l e = ap (outcome m) e ∙ sym (ap (leaves c m) (remove-by (numbersOf f c) x s good nowhere (sym (l .is))))
 
@@ -120,7 +119,7 @@ module _ (f : Functions) (c : Rooms) (x : ℕ) (t0 t1 q d : List ℕ) where
       waits = sym (length-readMany entryForm (c .«queue_len») q)
 
       -- each of the words, and the record
-      removes : (p : RulesPlace) (u ql : ℕ) {t0′ t1′ q′ d′ : List ℕ} {a : Done} → p ≡ search (numbersOf f c) x s → valueAt p s ≡ some u
+      removes : (p : RulesPlace) (u ql : ℕ) {t0′ t1′ q′ d′ : List ℕ} {a : Told} → p ≡ search (numbersOf f c) x s → valueAt p s ≡ some u
           → t0′ ≡ writeMany cellForm (without p s .tables .table0) → t1′ ≡ writeMany cellForm (without p s .tables .table1)
           → q′ ≡ packed entryForm (length q) (without p s .waiting) → d′ ≡ packed pairForm (length d) (without p s .marked)
           → ql ≡ length (without p s .waiting) → c .«detector_len» ≡ length (without p s .marked)
@@ -136,7 +135,7 @@ module _ (f : Functions) (c : Rooms) (x : ℕ) (t0 t1 q d : List ℕ) where
       marks : c .«detector_len» ≡ length (pairsIn (c .«detector_len») d)
       marks = sym (length-readMany pairForm (c .«detector_len») d)
 
-      module _ {i : ℕ} {t′ q′ d′ : List ℕ} {a : Done} where
+      module _ {i : ℕ} {t′ q′ d′ : List ℕ} {a : Told} where
         pub removes-first : Located f c x m (Table0 i) → CellGone c i t0 q d t′ q′ d′ a → Removes (outcome (lent t′ t1 q′ d′) a)
         removes-first l g =
             removes (inTable table-0 i) (getD t0 (2 * i + 1) 0) (c .«queue_len») (l .is)
@@ -151,7 +150,7 @@ module _ (f : Functions) (c : Rooms) (x : ℕ) (t0 t1 q d : List ℕ) where
             (sym (write-all cellForm cell-lawful (f .r) t0 (fit .first))) (g .table ∙ cell-written (f .r) i t1 (fit .second) (l .within))
             (g .tidied .queue) (g .tidied .detector) waits marks (g .answer)
 
-      pub removes-waiting : {j : ℕ} {q′ d′ : List ℕ} {a : Done} → Located f c x m (Waiting j) → EntryGone c j q d q′ d′ a → Removes (outcome (lent t0 t1 q′ d′) a)
+      pub removes-waiting : {j : ℕ} {q′ d′ : List ℕ} {a : Told} → Located f c x m (Waiting j) → EntryGone c j q d q′ d′ a → Removes (outcome (lent t0 t1 q′ d′) a)
       removes-waiting {j} l g =
           removes (waitingAt j) (getD q (3 * j + 1) 0) (c .«queue_len» - 1) (l .is) (ap some (entry-value (c .«queue_len») j q (l .within)))
           (sym (write-all cellForm cell-lawful (f .r) t0 (fit .first))) (sym (write-all cellForm cell-lawful (f .r) t1 (fit .second)))

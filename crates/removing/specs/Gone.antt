@@ -9,17 +9,16 @@ use Rattle.layout.specs.Forms.{entryForm, pairForm, packed}
 use Rattle.layout.specs.Memory.{Tidied}
 use Rattle.kinds.specs.Shape.{entriesIn, pairsIn}
 use Rattle.numbers.specs.declared.Rooms.{Rooms}
-use Rattle.finding.specs.declared.Done.{Done}
-use Rattle.finding.specs.Inner.{answered, withLens}
+use Rattle.finding.specs.Inner.{answered, withLens, Told}
 
 -- a cell removed
-pub record CellGone (c : Rooms) (i : ℕ) (t q d t′ q′ d′ : List ℕ) (a : Done) : Type 0 where
+pub record CellGone (c : Rooms) (i : ℕ) (t q d t′ q′ d′ : List ℕ) (a : Told) : Type 0 where
   pub table : t′ ≡ sets t (2 * i) (0 ∷ 0 ∷ [])
   pub tidied : Tidied (c .«queue_len») (c .«detector_len») q d q′ d′
   pub answer : a ≡ answered c (answer 0 (getD t (2 * i + 1) 0) 0 0)
 
 -- a queue entry removed
-pub record EntryGone (c : Rooms) (j : ℕ) (q d q′ d′ : List ℕ) (a : Done) : Type 0 where
+pub record EntryGone (c : Rooms) (j : ℕ) (q d q′ d′ : List ℕ) (a : Told) : Type 0 where
   pub queue : q′ ≡ packed entryForm (length q) (dropAt (entriesIn (c .«queue_len») q) j)
   pub detector : d′ ≡ packed pairForm (length d) (pairsIn (c .«detector_len») d)
   pub answer : a ≡ answered (withLens c (c .«queue_len» - 1) (c .«detector_len»)) (answer 0 (getD q (3 * j + 1) 0) 0 0)

@@ -4,7 +4,7 @@ ghost use Prim.Native.Nat.{ℕ, _+_, _*_, _<_};
 ghost use lib.ListN.{length};
 ghost use Rattle.rules.specs.Calls.{remove};
 ghost use Rattle.layout.specs.Memory.{lent};
-ghost use Rattle.finding.specs.Inner.{numbersOf, storeOf, outcome, leaves, RoomsFit, FitIn};
+ghost use Rattle.finding.specs.Inner.{numbersOf, storeOf, outcome, leaves, RoomsFit, FitIn, toldBy};
 ghost use Rattle.removing.specs.Gone.{CellGone, EntryGone};
 use finding::Done;
 use finding::Place;
@@ -15,7 +15,7 @@ use numbers::Rooms;
 fn remove_cell(c: Rooms, i: usize, t: &mut [u32], queue: &mut [u32], detector: &mut [u32]) -> Done
     requires { ⌜ 2 * i + 1 < length (now t) ⌝ }
     requires { ⌜ RoomsFit c (length (now queue)) (length (now detector)) ⌝ }
-    ensures { λ a. ⌜ CellGone c i (now (t .entry)) (now (queue .entry)) (now (detector .entry)) (now (t .exit)) (now (queue .exit)) (now (detector .exit)) a ⌝ }
+    ensures { λ a. ⌜ CellGone c i (now (t .entry)) (now (queue .entry)) (now (detector .entry)) (now (t .exit)) (now (queue .exit)) (now (detector .exit)) (toldBy a) ⌝ }
 {
     let old = t[2 * i + 1];
     words::put_two(t, 2 * i, 0, 0);
@@ -27,7 +27,7 @@ fn remove_cell(c: Rooms, i: usize, t: &mut [u32], queue: &mut [u32], detector: &
 fn remove_waiting(mut c: Rooms, j: usize, queue: &mut [u32], detector: &mut [u32]) -> Done
     requires { ⌜ j < c .«queue_len» ⌝ }
     requires { ⌜ RoomsFit c (length (now queue)) (length (now detector)) ⌝ }
-    ensures { λ a. ⌜ EntryGone c j (now (queue .entry)) (now (detector .entry)) (now (queue .exit)) (now (detector .exit)) a ⌝ }
+    ensures { λ a. ⌜ EntryGone c j (now (queue .entry)) (now (detector .entry)) (now (queue .exit)) (now (detector .exit)) (toldBy a) ⌝ }
 {
     let old = queue[3 * j + 1];
     layout::tidy(queue, c.queue_len, detector, c.detector_len);
@@ -48,12 +48,13 @@ pub fn remove(
     detector: &mut [u32],
 ) -> Done
     requires { ⌜ FitIn f c (lent (now t0) (now t1) (now queue) (now detector)) ⌝ }
-    ensures { λ a. ⌜ outcome (lent (now (t0 .exit)) (now (t1 .exit)) (now (queue .exit)) (now (detector .exit))) a ≡ leaves c (lent (now (t0 .entry)) (now (t1 .entry)) (now (queue .entry)) (now (detector .entry))) (remove (numbersOf f c) x (storeOf f c (lent (now (t0 .entry)) (now (t1 .entry)) (now (queue .entry)) (now (detector .entry))))) ⌝ }
+    ensures { λ a. ⌜ outcome (lent (now (t0 .exit)) (now (t1 .exit)) (now (queue .exit)) (now (detector .exit))) (toldBy a) ≡ leaves c (lent (now (t0 .entry)) (now (t1 .entry)) (now (queue .entry)) (now (detector .entry))) (remove (numbersOf f c) x (storeOf f c (lent (now (t0 .entry)) (now (t1 .entry)) (now (queue .entry)) (now (detector .entry))))) ⌝ }
 {
     if !numbers::is_key(x) {
         return finding::reply(c, 4, 0);
     }
-    let p = finding::search(f, c, x, t0, t1, queue);
+    let s = finding::search(f, c, x, t0, t1, queue);
+    let p = s.place;
     match p {
         Place::Table0(i) => remove_cell(c, i, t0, queue, detector),
         Place::Table1(i) => remove_cell(c, i, t1, queue, detector),

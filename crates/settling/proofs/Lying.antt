@@ -17,16 +17,15 @@ use Rattle.steps.proofs.Going.{holds-store, holds-queue, holds-detector, holds-
 use Rattle.numbers.specs.declared.Functions.{Functions}
 use Rattle.layout.specs.Memory.{Lent, lent, wordsIn, Tidied}
 use Rattle.numbers.specs.declared.Rooms.{Rooms}
-use Rattle.finding.specs.declared.Done.{Done}
-use Rattle.finding.specs.Inner.{numbersOf, storeOf, wordsOf, withLens, Outcome, outcome, answered, FitIn}
+use Rattle.finding.specs.Inner.{numbersOf, storeOf, wordsOf, withLens, Outcome, outcome, answered, FitIn, Told, tells}
 use Rattle.settling.specs.Ran.{ranOutcome}
 
 -- an outcome by its five parts
-pub as-one : {t0 t1 q d u0 u1 p e : List ℕ} {a b : Done} → t0 ≡ u0 → t1 ≡ u1 → q ≡ p → d ≡ e → a ≡ b → outcome (lent t0 t1 q d) a ≡ outcome (lent u0 u1 p e) b
+pub as-one : {t0 t1 q d u0 u1 p e : List ℕ} {a b : Told} → t0 ≡ u0 → t1 ≡ u1 → q ≡ p → d ≡ e → a ≡ b → outcome (lent t0 t1 q d) a ≡ outcome (lent u0 u1 p e) b
 as-one e0 e1 e2 e3 e4 = λ i. outcome (lent (e0 i) (e1 i) (e2 i) (e3 i)) (e4 i)
 
 -- words that hold a store are its words
-pub held-words : (f : Functions) (c : Rooms) (nq nd : ℕ) (s : Store) (t0 t1 q d : List ℕ) (ql dl : ℕ) (a b : Done) → length t0 ≡ 2 * f .r → length t1 ≡ 2 * f .r
+pub held-words : (f : Functions) (c : Rooms) (nq nd : ℕ) (s : Store) (t0 t1 q d : List ℕ) (ql dl : ℕ) (a b : Told) → length t0 ≡ 2 * f .r → length t1 ≡ 2 * f .r
     → nq ≡ 3 * c .«queue_room» → nd ≡ 2 * c .«detector_room» → Holds (f .r) nq nd s t0 t1 q d ql dl → a ≡ b → outcome (lent t0 t1 q d) a ≡ outcome (wordsOf c s) b
 unfolding wordsIn
 held-words f c nq nd s t0 t1 q d ql dl a b l0 l1 eq ed h e = as-one
@@ -89,9 +88,8 @@ module _ (f : Functions) (c : Rooms) (m : Lent) (fit : FitIn f c m) (budget : �
   pub runs-with : StepsWith (numbersOf f c) f (c .«detector_room»)
   runs-with = record { detector-room = refl; homes = refl }
 
-  pub ran-out : (t0 t1 q d : List ℕ) (e : Ended) → Runs (f .r) (length (m .queue)) (length (m .detector)) (run (numbersOf f c) budget (storeOf f c m)) t0 t1 q d e
-      → length t0 ≡ length (m .table0) → length t1 ≡ length (m .table1)
-      → outcome (lent t0 t1 q d) (record { «queue_len» = e .«queue_len»; «detector_len» = e .«detector_len»; number = 0; value = 0; steps = e .steps; moves = e .moves })
-      ≡ ranOutcome c (run (numbersOf f c) budget (storeOf f c m))
-  ran-out t0 t1 q d e r l0 l1 = held-words f c _ _ _ t0 t1 q d _ _ _ _ (l0 ∙ fit .first) (l1 ∙ fit .second) (fit .rooms .queue) (fit .rooms .detector) (r .words)
-      (λ i. record { «queue_len» = r .words .queue-len i; «detector_len» = r .words .detector-len i; number = 0; value = 0; steps = r .steps i; moves = r .moves i })
+  pub ran-out : (t0 t1 q d : List ℕ) (e : Ended) {a : Told} → Runs (f .r) (length (m .queue)) (length (m .detector)) (run (numbersOf f c) budget (storeOf f c m)) t0 t1 q d e
+      → length t0 ≡ length (m .table0) → length t1 ≡ length (m .table1) → a ≡ tells (e .«queue_len») (e .«detector_len») 0 0 (e .steps) (e .moves)
+      → outcome (lent t0 t1 q d) a ≡ ranOutcome c (run (numbersOf f c) budget (storeOf f c m))
+  ran-out t0 t1 q d e r l0 l1 is = ap (outcome (lent t0 t1 q d)) is ∙ held-words f c _ _ _ t0 t1 q d _ _ _ _ (l0 ∙ fit .first) (l1 ∙ fit .second) (fit .rooms .queue) (fit .rooms .detector) (r .words)
+      (λ i. tells (r .words .queue-len i) (r .words .detector-len i) 0 0 (r .steps i) (r .moves i))

@@ -12,8 +12,7 @@ use Rattle.layout.proofs.Forms.{length-readMany}
 use Rattle.numbers.specs.declared.Functions.{Functions}
 use Rattle.layout.specs.Memory.{Lent, lent, Tidied}
 use Rattle.numbers.specs.declared.Rooms.{Rooms}
-use Rattle.finding.specs.declared.Done.{Done}
-use Rattle.finding.specs.Inner.{numbersOf, storeOf, withLens, answered, outcome, keeps, leaves, FitIn}
+use Rattle.finding.specs.Inner.{numbersOf, storeOf, withLens, answered, outcome, keeps, leaves, FitIn, Told}
 use Rattle.settling.specs.Ran.{ranOutcome}
 use Rattle.settling.proofs.Lying.{held-words, tidied-holds, tidied-store}
 
@@ -28,7 +27,7 @@ settles f c n t0 t1 q d q′ d′ fit tidied h =
     ap (λ s. ranOutcome c (run (numbersOf f c) n s)) (tidied-store f c t0 t1 q d q′ d′ fit tidied) ∙ simp (le-ltb (c .«step_limit») n h)
 
 -- with nothing waiting the run does no step
-pub settles-idle : (f : Functions) (c : Rooms) (n : ℕ) (t0 t1 q d : List ℕ) {q′ d′ : List ℕ} {a : Done} → FitIn f c (lent t0 t1 q d)
+pub settles-idle : (f : Functions) (c : Rooms) (n : ℕ) (t0 t1 q d : List ℕ) {q′ d′ : List ℕ} {a : Told} → FitIn f c (lent t0 t1 q d)
     → Tidied (c .«queue_len») (c .«detector_len») q d q′ d′ → n ≤ c .«step_limit» → c .«queue_len» ≡ 0 → a ≡ answered c (answer 0 0 0 0)
     → outcome (lent t0 t1 q′ d′) a ≡ leaves c (lent t0 t1 q d) (settle (numbersOf f c) n (storeOf f c (lent t0 t1 q d)))
 unfolding leaves settle readMany

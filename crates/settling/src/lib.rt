@@ -5,7 +5,7 @@ ghost use Rattle.rules.specs.Run.{run};
 ghost use Rattle.rules.specs.Calls.{settle};
 ghost use Rattle.layout.specs.Memory.{lent};
 ghost use Rattle.kinds.specs.Shape.{Ready};
-ghost use Rattle.finding.specs.Inner.{numbersOf, storeOf, outcome, leaves, FitIn};
+ghost use Rattle.finding.specs.Inner.{numbersOf, storeOf, outcome, leaves, FitIn, toldBy};
 ghost use Rattle.settling.specs.Ran.{ranOutcome};
 use finding::Done;
 use numbers::Functions;
@@ -24,7 +24,7 @@ pub fn run_out(
     requires { ⌜ budget ≤ 64 ⌝ }
     requires { ⌜ FitIn f c (lent (now t0) (now t1) (now queue) (now detector)) ⌝ }
     requires { ⌜ Ready (c .«queue_len») (c .«detector_len») (now queue) (now detector) ⌝ }
-    ensures { λ a. ⌜ outcome (lent (now (t0 .exit)) (now (t1 .exit)) (now (queue .exit)) (now (detector .exit))) a ≡ ranOutcome c (run (numbersOf f c) budget (storeOf f c (lent (now (t0 .entry)) (now (t1 .entry)) (now (queue .entry)) (now (detector .entry))))) ⌝ }
+    ensures { λ a. ⌜ outcome (lent (now (t0 .exit)) (now (t1 .exit)) (now (queue .exit)) (now (detector .exit))) (toldBy a) ≡ ranOutcome c (run (numbersOf f c) budget (storeOf f c (lent (now (t0 .entry)) (now (t1 .entry)) (now (queue .entry)) (now (detector .entry))))) ⌝ }
 {
     let e = steps::run_steps(
         f,
@@ -37,14 +37,7 @@ pub fn run_out(
         queue,
         detector,
     );
-    Done {
-        queue_len: e.queue_len,
-        detector_len: e.detector_len,
-        number: 0,
-        value: 0,
-        steps: e.steps,
-        moves: e.moves,
-    }
+    Done::of(e.queue_len, e.detector_len, 0, 0, e.steps, e.moves)
 }
 
 // Settle n: steps run until n are done or the queue is empty.
@@ -58,7 +51,7 @@ pub fn settle(
     detector: &mut [u32],
 ) -> Done
     requires { ⌜ FitIn f c (lent (now t0) (now t1) (now queue) (now detector)) ⌝ }
-    ensures { λ a. ⌜ outcome (lent (now (t0 .exit)) (now (t1 .exit)) (now (queue .exit)) (now (detector .exit))) a ≡ leaves c (lent (now (t0 .entry)) (now (t1 .entry)) (now (queue .entry)) (now (detector .entry))) (settle (numbersOf f c) n (storeOf f c (lent (now (t0 .entry)) (now (t1 .entry)) (now (queue .entry)) (now (detector .entry))))) ⌝ }
+    ensures { λ a. ⌜ outcome (lent (now (t0 .exit)) (now (t1 .exit)) (now (queue .exit)) (now (detector .exit))) (toldBy a) ≡ leaves c (lent (now (t0 .entry)) (now (t1 .entry)) (now (queue .entry)) (now (detector .entry))) (settle (numbersOf f c) n (storeOf f c (lent (now (t0 .entry)) (now (t1 .entry)) (now (queue .entry)) (now (detector .entry))))) ⌝ }
 {
     if c.step_limit < n {
         return finding::reply(c, 8, 0);

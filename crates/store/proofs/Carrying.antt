@@ -12,8 +12,7 @@ use Rattle.rules.specs.Keeps.{isAccepted}
 use Rattle.layout.specs.Memory.{Lent}
 use Rattle.faults.specs.Faults.{faultOf}
 use Rattle.numbers.specs.declared.Rooms.{Rooms}
-use Rattle.finding.specs.declared.Done.{Done}
-use Rattle.finding.specs.Inner.{numbersOf as innerNumbers, storeOf as innerStore, Outcome as InnerOutcome, outcome as inner, answered as innerAnswered, keeps as innerKeeps, leaves as innerLeaves, wordsOf as innerWords, roomsOf as innerRooms, FitIn}
+use Rattle.finding.specs.Inner.{numbersOf as innerNumbers, storeOf as innerStore, Outcome as InnerOutcome, outcome as inner, answered as innerAnswered, keeps as innerKeeps, leaves as innerLeaves, wordsOf as innerWords, roomsOf as innerRooms, FitIn, Told}
 use Rattle.changing.specs.Change.{putValue, changing as innerChanging}
 use Rattle.store.specs.declared.Control.{Control}
 use Rattle.store.specs.declared.Answer.{Answer}
@@ -61,7 +60,7 @@ module _ (c : Control) (m : Lent) {f : Functions} {w : Rooms} {k : ℕ} (functio
     pub goes-on-by : (after : Outcome) → after ≡ unlessFault c m after
     goes-on-by after = sym (goes-on c m after (sym tested ∙ none))
 
-    module _ {m′ : Lent} {d : Done} {a : Answer} (is : a ≡ carried c d) where
+    module _ {m′ : Lent} {d : Told} {a : Answer} (is : a ≡ carried c d) where
       -- whatever an inner call leaves, if what it leaves carries to what comes after
       goes-by : (G : Functions → Rooms → InnerOutcome) (after : Outcome) → carries c (G (functionsOf c) (roomsOf c)) ≡ after → inner m′ d ≡ G f w → outcome m′ a ≡ unlessFault c m after
       goes-by G after carry e =

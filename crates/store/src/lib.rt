@@ -1,10 +1,8 @@
 // The key table: calls on a control record, by value, and on lent words. Every call takes every record, number and buffer.
 ghost use mathlib.Core.Path.{_≡_};
-ghost use mathlib.Core.List.{List, [], _∷_};
-ghost use Prim.Native.Nat.{ℕ, _+_, _*_, _≤_, _<_};
-ghost use lib.ListN.{length, getD, set};
 ghost use Rattle.rules.specs.Calls.{answer};
 ghost use Rattle.layout.specs.Memory.{lent};
+ghost use Rattle.finding.specs.Inner.{toldBy};
 ghost use Rattle.store.specs.Memory.{functionsOf, roomsOf};
 ghost use Rattle.store.specs.Refusals.{outcome, answered};
 ghost use Rattle.store.specs.Calls.{zeros, newRecord, opened, found, defined, changed, removed, settled, checked};
@@ -80,10 +78,10 @@ impl Control {
 
     // The record with new lengths, and an answer.
     fn after(mut self, d: Done) -> Answer
-        ensures { λ a. ⌜ a ≡ carried self d ⌝ }
+        ensures { λ a. ⌜ a ≡ carried self (toldBy d) ⌝ }
     {
-        self.queue_len = d.queue_len;
-        self.detector_len = d.detector_len;
+        self.queue_len = d.queue_len();
+        self.detector_len = d.detector_len();
         Answer {
             control: self,
             number: d.number,

@@ -20,6 +20,7 @@ mul-if1 c = search needs
 mul-if1-2 : tie.Need-mul-if1-2
 mul-if1-2 c = search needs
 
+-- antt refused `slice-read-if1` as it was built: the module's report says why
 slice-read-if1 : tie.Need-slice-read-if1
 slice-read-if1 c =
     let s = c .before .before .before .before .before .before .before in
@@ -30,6 +31,7 @@ slice-read-if1 c =
 mul-put-two : tie.Need-mul-put-two
 mul-put-two c = search needs
 
+-- antt refused `put-two-requires` as it was built: the module's report says why
 put-two-requires : tie.Need-put-two-requires
 put-two-requires c κs =
     let s = c .before .before .before .before .before .before .before .before .before in
@@ -40,6 +42,9 @@ put-two-requires c κs =
 tidy-requires : tie.Need-tidy-requires
 tidy-requires c κs = search needs
 
+of-requires : tie.Need-of-requires
+of-requires c κs = search needs
+
 same-length : tie.Need-same-length
 same-length c = search needs
 
@@ -49,13 +54,13 @@ same-length-2 c = search needs
 same-length-3 : tie.Need-same-length-3
 same-length-3 c = search needs
 
+-- antt refused `returns` as it was built: the module's report says why
 returns : tie.Need-returns
 returns c =
-    let s = c .before .before .before .before .before .before .before .before .before .before .before .before .before .before .before .before .before .before .before in
+    let s = c .before .before .before .before .before .before .before .before .before .before .before .before .before .before .before .before .before .before .before .before in
     let a = s .args in
-    let e = and-eq-true-iff _ _ .0 (c .before .before .before .before .before .before .before .before .before .before .before .if1 .taken) in
-    seated-at-once (a .f) (a .c) (a .x) (a .v) (a .t0 .now) (a .t1 .now) (a .queue .now) (a .detector .now) (s .pre .1) (eqb-true _ _ (e .0)) (c .before .before .before .before .before .before .before .before .before .before .before .before .before .before .in-table0 .ensures) (eqb-true _ _ (e .1))
-    (c .before .before .before .before .before .before .before .before .before .put-two .ensures) (c .before .before .before .before .tidy .ensures)
+    let e = and-eq-true-iff _ _ .0 (c .before .before .before .before .before .before .before .before .before .before .before .before .if1 .taken) in
+    seated-at-once (a .f) (a .c) (a .x) (a .v) (a .t0 .now) (a .t1 .now) (a .queue .now) (a .detector .now) (s .pre .1) (eqb-true _ _ (e .0)) (c .before .before .before .before .before .before .before .before .before .before .before .before .before .before .before .in-table0 .ensures) (eqb-true _ _ (e .1)) (c .before .before .before .before .before .before .before .before .before .before .put-two .ensures) (c .before .before .before .before .before .tidy .ensures) (c .of .ensures)
 
 join-requires : tie.Need-join-requires
 join-requires c κs = search needs
@@ -75,6 +80,7 @@ same-length-7 c = search needs
 returns-2 : tie.Need-returns-2
 returns-2 c = search needs
 
+-- antt refused `seat-spec` as it was built: the module's report says why
 pub seat-spec : {M : Type 1} → statement M
 seat-spec =
     tie.close
@@ -87,6 +93,7 @@ seat-spec =
     mul-put-two
     put-two-requires
     tidy-requires
+    of-requires
     same-length
     same-length-2
     same-length-3

@@ -26,7 +26,7 @@ enum-known-p c = search needs
 
 exchange-requires : tie.Need-exchange-requires
 exchange-requires c κs =
-    let h = located-as (c .before .before .before .before .search .ensures []) (c .before .before .p .given .1) .within in
+    let h = located-as (c .before .before .before .before .search .ensures [] .at) (c .before .before .p .given .1) .within in
     let s = c .before .before .before .before .before .before .before .before .before .before .before .before .before .pre .0 in
     (omega arith, omega arith)
 
@@ -35,7 +35,7 @@ enum-known-p-2 c = search needs
 
 exchange-requires-2 : tie.Need-exchange-requires-2
 exchange-requires-2 c κs =
-    let h = located-as (c .before .before .before .before .search .ensures []) (c .before .before .p2 .given .1) .within in
+    let h = located-as (c .before .before .before .before .search .ensures [] .at) (c .before .before .p2 .given .1) .within in
     let s = c .before .before .before .before .before .before .before .before .before .before .before .before .before .pre .0 in
     (omega arith, omega arith)
 
@@ -44,7 +44,7 @@ enum-known-p-3 c = search needs
 
 exchange-requires-3 : tie.Need-exchange-requires-3
 exchange-requires-3 c κs =
-    let h = located-as (c .before .before .before .before .search .ensures []) (c .before .before .p3 .given .1) .within in
+    let h = located-as (c .before .before .before .before .search .ensures [] .at) (c .before .before .p3 .given .1) .within in
     let s = c .before .before .before .before .before .before .before .before .before .before .before .before .before .pre .1 in
     (omega arith, omega arith)
 
@@ -67,7 +67,7 @@ returns-2 : tie.Need-returns-2
 returns-2 c d =
     let a = c .before .before .before .before .before .before .before .before .before .before .before .before .before .before .before .before .args in
     changes-first (a .f) (a .c) (a .x) (a .v) (a .t0 .now) (a .t1 .now) (a .queue .now) d (c .before .before .before .before .before .before .before .before .before .before .before .before .is-key .ensures) (c .before .before .before .before .before .before .before .before .before .before .before .if1 .left)
-    (located-as (c .before .before .before .before .before .before .before .search .ensures d) (c .before .before .before .before .before .p .given .1)) (c .before .before .exchange .ensures)
+    (located-as (c .before .before .before .before .before .before .before .search .ensures d .at) (c .before .before .before .before .before .p .given .1)) (c .before .before .exchange .ensures)
 
 same-length-4 : tie.Need-same-length-4
 same-length-4 c = search needs
@@ -82,7 +82,7 @@ returns-3 : tie.Need-returns-3
 returns-3 c d =
     let a = c .before .before .before .before .before .before .before .before .before .before .before .before .before .before .before .before .args in
     changes-second (a .f) (a .c) (a .x) (a .v) (a .t0 .now) (a .t1 .now) (a .queue .now) d (c .before .before .before .before .before .before .before .before .before .before .before .before .is-key .ensures) (c .before .before .before .before .before .before .before .before .before .before .before .if1 .left)
-    (located-as (c .before .before .before .before .before .before .before .search .ensures d) (c .before .before .before .before .before .p2 .given .1)) (c .before .before .exchange2 .ensures)
+    (located-as (c .before .before .before .before .before .before .before .search .ensures d .at) (c .before .before .before .before .before .p2 .given .1)) (c .before .before .exchange2 .ensures)
 
 same-length-7 : tie.Need-same-length-7
 same-length-7 c = search needs
@@ -97,7 +97,7 @@ returns-4 : tie.Need-returns-4
 returns-4 c d =
     let a = c .before .before .before .before .before .before .before .before .before .before .before .before .before .before .before .before .args in
     changes-waiting (a .f) (a .c) (a .x) (a .v) (a .t0 .now) (a .t1 .now) (a .queue .now) d (c .before .before .before .before .before .before .before .before .before .before .before .before .is-key .ensures) (c .before .before .before .before .before .before .before .before .before .before .before .if1 .left)
-    (located-as (c .before .before .before .before .before .before .before .search .ensures d) (c .before .before .before .before .before .p3 .given .1)) (c .before .before .exchange3 .ensures)
+    (located-as (c .before .before .before .before .before .before .before .search .ensures d .at) (c .before .before .before .before .before .p3 .given .1)) (c .before .before .exchange3 .ensures)
 
 same-length-10 : tie.Need-same-length-10
 same-length-10 c = search needs
@@ -112,7 +112,7 @@ returns-5 : tie.Need-returns-5
 returns-5 c d =
     let a = c .before .before .before .before .before .before .before .before .before .before .before .before .args in
     changes-none (a .f) (a .c) (a .x) (a .v) (a .t0 .now) (a .t1 .now) (a .queue .now) d (c .before .before .before .before .before .before .before .before .is-key .ensures) (c .before .before .before .before .before .before .before .if1 .left)
-    (located-as (c .before .before .before .search .ensures d) (c .before .enum-told .given .1)) (c .reply2 .ensures)
+    (located-as (c .before .before .before .search .ensures d .at) (c .before .enum-told .given .1)) (c .reply2 .ensures)
 
 pub change-spec : {M : Type 1} → statement M
 change-spec =

@@ -1,94 +1,134 @@
--- `finding::search` answers the place that the rules' search answers, and one within the tables and the queue. Assumes nothing.
+-- `finding::search` sees the place that the rules' search answers, within the tables and the queue, and find's answer to it. Assumes nothing.
 use mathlib.Core.List.{[]}
+use mathlib.Core.Path.{sym, _∙_}
 use native.Mathlib.Omega.{arith}
-use borrow.Author.Needs.{needs}
 use Rattle.layout.specs.Memory.{lent}
-use Rattle.finding.proofs.Searching.{first-in, second-in, in-first, in-second, in-waiting, in-none}
+use Rattle.finding.proofs.Searching.{first-in, second-in, sees-first, sees-second, sees-queue}
+use borrow.Author.Needs.{needs}
 use Rattle.finding.proofs.search.Statement.{statement}
 use Rattle.finding.proofs.search.Tie as tie
 
 in-table0-requires : tie.Need-in-table0-requires
-in-table0-requires c κs = c .before .before .before .pre .0 .some
+in-table0-requires c κs = search needs
 
 cast-i : tie.Need-cast-i
 cast-i c = search needs
 
-mul-if1 : tie.Need-mul-if1
-mul-if1 c = search needs
-
-mul-if1-2 : tie.Need-mul-if1-2
-mul-if1-2 c = search needs
-
-shared-slice-read-if1 : tie.Need-shared-slice-read-if1
-shared-slice-read-if1 c =
-    let s = c .before .before .before .before .before in
-    omega (arith, first-in (s .args .f) (s .args .c) (s .args .x) (lent (s .args .t0 .now) (s .args .t1 .now) [] []) (s .pre .0) (c .before .in-table0 .ensures))
-
-returns : tie.Need-returns
-returns c d =
-    let h = c .before .before in
-    in-first _ _ _ _ (h .before .before .before .before .pre .0) (h .in-table0 .ensures) (c .if1 .taken)
-
 in-table1-requires : tie.Need-in-table1-requires
-in-table1-requires c κs = c .before .before .before .before .before .before .pre .0 .some
+in-table1-requires c κs = search needs
 
 cast-j : tie.Need-cast-j
 cast-j c = search needs
 
-mul-if2 : tie.Need-mul-if2
-mul-if2 c = search needs
+mul-key0 : tie.Need-mul-key0
+mul-key0 c = search needs
 
-mul-if2-2 : tie.Need-mul-if2-2
-mul-if2-2 c = search needs
+mul-key0-2 : tie.Need-mul-key0-2
+mul-key0-2 c = search needs
 
-shared-slice-read-if2 : tie.Need-shared-slice-read-if2
-shared-slice-read-if2 c =
+-- antt refused `shared-slice-read-key0` as it was built: the module's report says why
+shared-slice-read-key0 : tie.Need-shared-slice-read-key0
+shared-slice-read-key0 c =
+    let s = c .before .before .before .before .before .before in
+    omega (arith, first-in (s .args .f) (s .args .c) (s .args .x) (lent (s .args .t0 .now) (s .args .t1 .now) [] []) (s .pre .0) (c .before .before .in-table0 .ensures))
+
+mul-value0 : tie.Need-mul-value0
+mul-value0 c = search needs
+
+add-value0 : tie.Need-add-value0
+add-value0 c = search needs
+
+mul-value0-2 : tie.Need-mul-value0-2
+mul-value0-2 c = search needs
+
+-- antt refused `shared-slice-read-value0` as it was built: the module's report says why
+shared-slice-read-value0 : tie.Need-shared-slice-read-value0
+shared-slice-read-value0 c =
+    let s = c .before .before .before .before .before .before .before in
+    omega (arith, first-in (s .args .f) (s .args .c) (s .args .x) (lent (s .args .t0 .now) (s .args .t1 .now) [] []) (s .pre .0) (c .before .before .before .in-table0 .ensures))
+
+mul-key1 : tie.Need-mul-key1
+mul-key1 c = search needs
+
+mul-key1-2 : tie.Need-mul-key1-2
+mul-key1-2 c = search needs
+
+-- antt refused `shared-slice-read-key1` as it was built: the module's report says why
+shared-slice-read-key1 : tie.Need-shared-slice-read-key1
+shared-slice-read-key1 c =
     let s = c .before .before .before .before .before .before .before .before in
-    omega (arith, second-in (s .args .f) (s .args .c) (s .args .x) (lent (s .args .t0 .now) (s .args .t1 .now) [] []) (s .pre .0) (c .before .in-table1 .ensures))
+    omega (arith, second-in (s .args .f) (s .args .c) (s .args .x) (lent (s .args .t0 .now) (s .args .t1 .now) [] []) (s .pre .0) (c .before .before .before .in-table1 .ensures))
 
+mul-value1 : tie.Need-mul-value1
+mul-value1 c = search needs
+
+add-value1 : tie.Need-add-value1
+add-value1 c = search needs
+
+mul-value1-2 : tie.Need-mul-value1-2
+mul-value1-2 c = search needs
+
+-- antt refused `shared-slice-read-value1` as it was built: the module's report says why
+shared-slice-read-value1 : tie.Need-shared-slice-read-value1
+shared-slice-read-value1 c =
+    let s = c .before .before .before .before .before .before .before .before .before in
+    omega (arith, second-in (s .args .f) (s .args .c) (s .args .x) (lent (s .args .t0 .now) (s .args .t1 .now) [] []) (s .pre .0) (c .before .before .before .before .in-table1 .ensures))
+
+neither-requires : tie.Need-neither-requires
+neither-requires c κs = search needs
+
+search-queue-requires : tie.Need-search-queue-requires
+search-queue-requires c κs = search needs
+
+-- antt refused `returns` as it was built: the module's report says why
+returns : tie.Need-returns
+returns c d =
+    let s = c .before .before .before .before .before .before .before .before .before .before .before .before in
+    let a = s .args in
+    sees-queue (a .f) (a .c) (a .x) (lent (a .t0 .now) (a .t1 .now) (a .queue .now) d) (s .pre .0) (c .before .before .before .before .before .before .before .before .in-table0 .ensures) (c .before .before .before .before .before .before .before .in-table1 .ensures)
+    (sym (c .before .before .neither .ensures) ∙ c .before .if1 .taken) (c .search-queue .ensures)
+
+-- antt refused `returns-2` as it was built: the module's report says why
 returns-2 : tie.Need-returns-2
 returns-2 c d =
-    let e = c .before .before .before in
-    let h = e .before .before in
-    in-second _ _ _ _ (h .before .before .before .before .pre .0) (h .in-table0 .ensures) (e .if1 .left) (c .before .before .in-table1 .ensures) (c .if2 .taken)
+    let s = c .before .before .before .before .before .before .before .before .before .before .before .before in
+    let a = s .args in
+    sees-first (a .f) (a .c) (a .x) (lent (a .t0 .now) (a .t1 .now) (a .queue .now) d) (s .pre .0) (c .before .before .before .before .before .before .before .before .in-table0 .ensures) (c .before .before .before .before .before .before .before .in-table1 .ensures)
+    (c .if2 .taken)
 
-cast-n : tie.Need-cast-n
-cast-n c = search needs
-
-place-of-requires : tie.Need-place-of-requires
-place-of-requires c κs = search needs
-
+-- antt refused `returns-3` as it was built: the module's report says why
 returns-3 : tie.Need-returns-3
 returns-3 c d =
-    let e′ = c .before .before .before in
-    let e = e′ .before .before .before in
-    let h = e .before .before in
-    in-waiting _ _ _ _ (h .before .before .before .before .pre .0) (h .in-table0 .ensures) (e .if1 .left) (e′ .before .before .in-table1 .ensures) (e′ .if2 .left) (c .before .place-of .ensures) (c .if3 .taken)
+    let s = c .before .before .before .before .before .before .before .before .before .before .before .before in
+    let a = s .args in
+    sees-second (a .f) (a .c) (a .x) (lent (a .t0 .now) (a .t1 .now) (a .queue .now) d) (s .pre .0) (c .before .before .before .before .before .before .before .before .in-table0 .ensures) (c .before .before .before .before .before .before .before .in-table1 .ensures)
+    (sym (c .before .before .neither .ensures) ∙ c .before .if1 .left) (c .if2 .left)
 
-returns-4 : tie.Need-returns-4
-returns-4 c d =
-    let e′ = c .before .before .before in
-    let e = e′ .before .before .before in
-    let h = e .before .before in
-    in-none _ _ _ _ (h .before .before .before .before .pre .0) (h .in-table0 .ensures) (e .if1 .left) (e′ .before .before .in-table1 .ensures) (e′ .if2 .left) (c .before .place-of .ensures) (c .if3 .left)
-
+-- antt refused `search-spec` as it was built: the module's report says why
 pub search-spec : {M : Type 1} → statement M
 search-spec =
     tie.close
     (tie.spec
     in-table0-requires
     cast-i
-    mul-if1
-    mul-if1-2
-    shared-slice-read-if1
-    returns
     in-table1-requires
     cast-j
-    mul-if2
-    mul-if2-2
-    shared-slice-read-if2
+    mul-key0
+    mul-key0-2
+    shared-slice-read-key0
+    mul-value0
+    add-value0
+    mul-value0-2
+    shared-slice-read-value0
+    mul-key1
+    mul-key1-2
+    shared-slice-read-key1
+    mul-value1
+    add-value1
+    mul-value1-2
+    shared-slice-read-value1
+    neither-requires
+    search-queue-requires
+    returns
     returns-2
-    cast-n
-    place-of-requires
-    returns-3
-    returns-4)
+    returns-3)

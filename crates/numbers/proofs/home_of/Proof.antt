@@ -1,5 +1,6 @@
 -- `numbers::home_of` meets its contract: the product of two words and a word more fit 64 bits. Assumes nothing.
-use mathlib.Core.Path.{refl}
+use Prim.Native.Nat.{_%_}
+use mathlib.Core.Path.{ap}
 use native.Mathlib.Omega.{arith}
 use borrow.Author.Needs.{needs}
 use Rattle.numbers.specs.Home.{home}
@@ -13,15 +14,15 @@ mul-sum c = omega (arith, product (c .args .a) (c .args .x) (c .fits .a .fits) (
 add-sum : tie.Need-add-sum
 add-sum c = omega (arith, product (c .args .a) (c .args .x) (c .fits .a .fits) (c .fits .x .fits))
 
-cast-mixed : tie.Need-cast-mixed
-cast-mixed c = search needs
+mod-p-requires : tie.Need-mod-p-requires
+mod-p-requires c κs = search needs
 
 rem-result : tie.Need-rem-result
 rem-result c = search needs
 
 returns : tie.Need-returns
 unfolding home
-returns c = refl
+returns c = ap (λ k. k % (c .before .args .r)) (c .mod-p .ensures)
 
 pub home-of-spec : {M : Type 1} → statement M
-home-of-spec = tie.close (tie.spec mul-sum add-sum cast-mixed rem-result returns)
+home-of-spec = tie.close (tie.spec mul-sum add-sum mod-p-requires rem-result returns)

@@ -26,7 +26,7 @@ enum-known-p c = search needs
 
 remove-cell-requires : tie.Need-remove-cell-requires
 remove-cell-requires c κs =
-    let h = located-as (c .before .before .before .before .before .before .search .ensures []) (c .before .before .before .before .p .given .1) .within in
+    let h = located-as (c .before .before .before .before .before .before .search .ensures [] .at) (c .before .before .before .before .p .given .1) .within in
     let s = c .before .before .before .before .before .before .before .before .before .before .before .before .before .before .before .before .pre in
     (omega arith, s .rooms)
 
@@ -35,7 +35,7 @@ enum-known-p-2 c = search needs
 
 remove-cell-requires-2 : tie.Need-remove-cell-requires-2
 remove-cell-requires-2 c κs =
-    let h = located-as (c .before .before .before .before .before .before .search .ensures []) (c .before .before .before .before .p2 .given .1) .within in
+    let h = located-as (c .before .before .before .before .before .before .search .ensures [] .at) (c .before .before .before .before .p2 .given .1) .within in
     let s = c .before .before .before .before .before .before .before .before .before .before .before .before .before .before .before .before .pre in
     (omega arith, s .rooms)
 
@@ -44,7 +44,7 @@ enum-known-p-3 c = search needs
 
 remove-waiting-requires : tie.Need-remove-waiting-requires
 remove-waiting-requires c κs =
-    (located-as (c .before .before .before .before .before .search .ensures []) (c .before .before .before .p3 .given .1) .within, c .before .before .before .before .before .before .before .before .before .before .before .before .before .before .before .pre .rooms)
+    (located-as (c .before .before .before .before .before .search .ensures [] .at) (c .before .before .before .p3 .given .1) .within, c .before .before .before .before .before .before .before .before .before .before .before .before .before .before .before .pre .rooms)
 
 enum-told : tie.Need-enum-told
 enum-told c = search needs
@@ -70,7 +70,7 @@ returns-2 c =
     let a = s .args in
     let good = good-key _ (c .before .before .before .before .before .before .before .before .before .before .before .before .before .before .before .before .before .before .is-key .ensures) (c .before .before .before .before .before .before .before .before .before .before .before .before .before .before .before .before .before .if1 .left) in
     removes-first (a .f) (a .c) (a .x) (a .t0 .now) (a .t1 .now) (a .queue .now) (a .detector .now) good (s .pre)
-    (located-as (c .before .before .before .before .before .before .before .before .before .before .before .before .before .search .ensures (a .detector .now)) (c .before .before .before .before .before .before .before .before .before .before .before .p .given .1)) (c .before .before .before .before .before .before .remove-cell .ensures)
+    (located-as (c .before .before .before .before .before .before .before .before .before .before .before .before .before .search .ensures (a .detector .now) .at) (c .before .before .before .before .before .before .before .before .before .before .before .p .given .1)) (c .before .before .before .before .before .before .remove-cell .ensures)
 
 same-length-5 : tie.Need-same-length-5
 same-length-5 c = search needs
@@ -90,7 +90,7 @@ returns-3 c =
     let a = s .args in
     let good = good-key _ (c .before .before .before .before .before .before .before .before .before .before .before .before .before .before .before .before .before .before .is-key .ensures) (c .before .before .before .before .before .before .before .before .before .before .before .before .before .before .before .before .before .if1 .left) in
     removes-second (a .f) (a .c) (a .x) (a .t0 .now) (a .t1 .now) (a .queue .now) (a .detector .now) good (s .pre)
-    (located-as (c .before .before .before .before .before .before .before .before .before .before .before .before .before .search .ensures (a .detector .now)) (c .before .before .before .before .before .before .before .before .before .before .before .p2 .given .1)) (c .before .before .before .before .before .before .remove-cell2 .ensures)
+    (located-as (c .before .before .before .before .before .before .before .before .before .before .before .before .before .search .ensures (a .detector .now) .at) (c .before .before .before .before .before .before .before .before .before .before .before .p2 .given .1)) (c .before .before .before .before .before .before .remove-cell2 .ensures)
 
 same-length-9 : tie.Need-same-length-9
 same-length-9 c = search needs
@@ -110,7 +110,7 @@ returns-4 c =
     let a = s .args in
     let good = good-key _ (c .before .before .before .before .before .before .before .before .before .before .before .before .before .before .before .is-key .ensures) (c .before .before .before .before .before .before .before .before .before .before .before .before .before .before .if1 .left) in
     removes-waiting (a .f) (a .c) (a .x) (a .t0 .now) (a .t1 .now) (a .queue .now) (a .detector .now) good (s .pre)
-    (located-as (c .before .before .before .before .before .before .before .before .before .before .search .ensures (a .detector .now)) (c .before .before .before .before .before .before .before .before .p3 .given .1)) (c .before .before .before .before .remove-waiting .ensures)
+    (located-as (c .before .before .before .before .before .before .before .before .before .before .search .ensures (a .detector .now) .at) (c .before .before .before .before .before .before .before .before .p3 .given .1)) (c .before .before .before .before .remove-waiting .ensures)
 
 same-length-13 : tie.Need-same-length-13
 same-length-13 c = search needs
@@ -127,7 +127,7 @@ returns-5 c =
     let a = s .args in
     let good = good-key _ (c .before .before .before .before .before .before .before .before .is-key .ensures) (c .before .before .before .before .before .before .before .if1 .left) in
     refuses-absent (a .f) (a .c) (a .x) (a .t0 .now) (a .t1 .now) (a .queue .now) (a .detector .now) good
-    (located-as (c .before .before .before .search .ensures (a .detector .now)) (c .before .enum-told .given .1)) (c .reply2 .ensures)
+    (located-as (c .before .before .before .search .ensures (a .detector .now) .at) (c .before .enum-told .given .1)) (c .reply2 .ensures)
 
 pub remove-spec : {M : Type 1} → statement M
 remove-spec =
