@@ -55,6 +55,8 @@ Timed timed(Operation operation, Contender &contender, const Work &work)
         return timed_passes(work, [&] { return contender.find_all(work.present); });
     case FIND_ABSENT:
         return timed_passes(work, [&] { return contender.find_all(work.absent); });
+    case FIND_BAD:
+        return timed_passes(work, [&] { return contender.find_all(work.bad); });
     case CHANGE: {
         uint32_t salt = 0;
         return timed_passes(work, [&] { return contender.change_all(work.present, ++salt); });
@@ -137,8 +139,8 @@ Singles summed_up(const Contender &contender, const std::vector<Fill> &fills)
 Rounds measure_rounds(const Contenders &contenders, const Work &work, size_t rounds)
 {
     Rounds result;
-    result.operations = {"fill, growing", "fill, reserved", "find present",
-                         "find absent",   "change",         "remove and define again"};
+    result.operations = {"fill, growing", "fill, reserved", "find present",           "find absent",
+                         "find of key 0", "change",         "remove and define again"};
     result.contenders = names_of(contenders);
     result.ns.assign(OPERATIONS, std::vector<std::vector<double>>(contenders.size()));
     for (size_t round = 0; round < rounds; round++)

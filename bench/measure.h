@@ -16,7 +16,7 @@ struct Rounds {
 };
 
 // The operations in the order of Rounds::ns.
-enum Operation { FILL, FILL_RESERVED, FIND_PRESENT, FIND_ABSENT, CHANGE, RENEW, OPERATIONS };
+enum Operation { FILL, FILL_RESERVED, FIND_PRESENT, FIND_ABSENT, FIND_BAD, CHANGE, RENEW, OPERATIONS };
 
 // Every round runs every contender once for each operation; another one begins in each round.
 Rounds measure_rounds(const Contenders &contenders, const Work &work, size_t rounds);

@@ -194,6 +194,36 @@ void print_goals(const Report &report)
     std::printf("\n");
 }
 
+// What the store takes for one operation, by what a contender takes for another.
+std::string across(const Rounds &rounds, size_t mine, const std::string &name, size_t theirs)
+{
+    const auto &above = rounds.ns[mine][STORE], &below = rounds.ns[theirs][contender(rounds, name)];
+    std::vector<double> result;
+    for (size_t i = 0; i < above.size(); i++)
+        result.push_back(above[i] / below[i]);
+    return with_quartiles(result);
+}
+
+void print_interface(const Report &report)
+{
+    std::printf("### What the interface takes\n\nA find of key 0 is refused with number 4 before a cell is read. It passes the"
+                " record and the four buffers, tests both, and gives the record back, as every call does. Its time, divided"
+                " by the time of another find:\n\n");
+    head({"find of key 0, by", "a", "b"});
+    struct Other {
+        const char *name;
+        Operation operation;
+    };
+    for (Other other : {Other{"this store", FIND_PRESENT}, Other{"absl::flat_hash_map", FIND_PRESENT},
+                        Other{"std::unordered_map", FIND_ABSENT}, Other{"libcuckoo", FIND_PRESENT}}) {
+        const Rounds &a = report.measured[0].rounds, &b = report.measured[1].rounds;
+        row({a.operations[other.operation] + ", " + other.name, across(a, FIND_BAD, other.name, other.operation),
+             across(b, FIND_BAD, other.name, other.operation)});
+    }
+    std::printf("\nThe rest of a find is two products, two remainders by p, two divisions by r and two cells. What the limit"
+                " reaches, beside each goal above, is what the rules and this interface leave to be gained.\n\n");
+}
+
 // ---- tables
 
 void print_rounds(const Rounds &rounds)
@@ -325,6 +355,7 @@ void write_file(const Singles &s, const std::string &path)
 void print_report(const Report &report)
 {
     print_goals(report);
+    print_interface(report);
     print_to_limit(report);
     for (const Measured &m : report.measured)
         print_work(m);

@@ -53,7 +53,7 @@ Work rail_keys()
 {
     Keys keys = rails(60, 1, 30);
     return {"a", "1,800 rail keys, r 2,048", 2048, shuffled(keys, 1), shuffled(keys, 2),
-            shuffled(rails(60, 31, 30), 3), 100, 301};
+            shuffled(rails(60, 31, 30), 3), Keys(keys.size()), 100, 301};
 }
 
 Work random_keys()
@@ -62,7 +62,7 @@ Work random_keys()
     Keys all = distinct(2 * n, 4);
     Keys fill(all.begin(), all.begin() + n);
     return {"b", "29,491 random keys (45% of the cells), r 32,768", 32768, fill, shuffled(fill, 5),
-            Keys(all.begin() + n, all.end()), 6, 41};
+            Keys(all.begin() + n, all.end()), Keys(n), 6, 41};
 }
 
 kt_record record_for(uint32_t r, Rooms rooms, uint64_t seed)

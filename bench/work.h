@@ -31,6 +31,7 @@ struct Work {
     Keys fill;    // in the order of defining
     Keys present; // the same keys in another order
     Keys absent;  // as many others
+    Keys bad;     // key 0, as many times
     size_t passes;
     size_t fills; // fills of the distribution
 };
