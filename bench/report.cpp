@@ -309,7 +309,7 @@ void print_scan(const Report &report)
     for (const ScanRow &s : report.scan)
         row({text("%u", s.rooms.q), text("%u", s.rooms.d), text("%u", s.rooms.l), tried_cell(s.tried[0]),
              tried_cell(s.tried[1])});
-    std::printf("\nEvery define and remove clears the queue and the detector past their lengths, so small rooms are fast:"
+    std::printf("\nEvery accepted define and remove clears the queue and the detector past their lengths, so small rooms are fast:"
                 " taken are the least Q and D at L %u with which no random key is refused and no chain is stopped that a"
                 " larger D would let run.\n", report.rooms.l);
     std::printf("\nRail keys are a lattice, and so are their homes: %llu of the %llu seeds put more of them into a group"

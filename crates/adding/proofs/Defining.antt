@@ -1,4 +1,4 @@
--- Define: words with one entry more hold the joined one, and the cases of define by what the search finds. Assumes nothing.
+-- Define: words with one entry more hold the joined store, and the cases of define by what the search finds. Assumes nothing.
 use Prim.Native.Nat.{ℕ, _+_, _*_, _≤_, _<_}
 use mathlib.Core.Path.{_≡_, refl, sym, ap, _∙_}
 use mathlib.Core.Logic.{_≢_}

@@ -1,5 +1,5 @@
 -- Define with nothing waiting and a free home: the run is one step of kind 1. Assumes nothing.
-use Prim.Native.Nat.{ℕ, zero, suc, _+_, _*_, _≤_, _<_}
+use Prim.Native.Nat.{ℕ, zero, suc, _*_, _≤_, _<_}
 use mathlib.Core.Path.{_≡_, refl, sym, ap, _∙_}
 use mathlib.Core.List.{List, [], _∷_, _++_}
 use native.Mathlib.Omega.{arith}
@@ -10,17 +10,17 @@ use Rattle.numbers.specs.declared.Functions.{Functions}
 use Rattle.numbers.specs.declared.Rooms.{Rooms}
 use Rattle.numbers.specs.Homes.{home0}
 use Rattle.numbers.proofs.Home.{home0-in-table}
-use Rattle.rules.specs.Store.{table-0, Cell, Entry, cellAt, Store, Numbers}
+use Rattle.rules.specs.Store.{table-0, Cell, cellAt, Store, Numbers}
 use Rattle.rules.specs.Step.{landed, done, stepAt, stepFrom, step}
-use Rattle.rules.specs.Run.{Ran, ran, counted, run}
-use Rattle.rules.specs.Calls.{answer, joined}
+use Rattle.rules.specs.Run.{ran, counted, run}
+use Rattle.rules.specs.Calls.{joined}
 use Rattle.rules.proofs.Runs.{run-idle, run-more}
 use Rattle.layout.specs.Forms.{cellForm, entryForm, pairForm, readMany, writeMany, packed}
-use Rattle.layout.specs.Memory.{Lent, lent, wordsIn, Tidied}
+use Rattle.layout.specs.Memory.{lent, wordsIn, Tidied}
 use Rattle.layout.proofs.Forms.{cell-lawful, length-readMany, write-all, write-set}
 use Rattle.kinds.specs.Shape.{cellsIn, entriesIn, entry}
 use Rattle.steps.proofs.InTable.{cell-read}
-use Rattle.finding.specs.Inner.{numbersOf, storeOf, Outcome, outcome, answered, withLens, FitIn, Told, tells}
+use Rattle.finding.specs.Inner.{numbersOf, storeOf, outcome, FitIn, Told, tells}
 use Rattle.settling.specs.Ran.{ranOutcome}
 
 -- the rules: one step, of kind 1

@@ -1,11 +1,10 @@
 -- What the code's change answers and leaves is what the rules' change does. Assumes nothing.
-use Prim.Native.Nat.{ℕ, _+_, _*_}
+use Prim.Native.Nat.{ℕ}
 use mathlib.Core.Path.{_≡_, refl, sym, ap, _∙_}
 use mathlib.Core.Bool.{Bool, true, false, not}
 use mathlib.Core.List.{List}
 use mathlib.Core.Option.{Option, none, some}
 use borrow.Author.Tests.{not-true, not-false}
-use lib.ListN.{set, getD}
 use Rattle.numbers.specs.declared.Functions.{Functions}
 use Rattle.numbers.specs.Ranges.{goodKey}
 use Rattle.rules.specs.Store.{Store, Numbers}

@@ -1,6 +1,6 @@
 // The test of a whole store, in time linear in its tables. An inner function: its callers show what it requires.
 ghost use mathlib.Core.Path.{_≡_};
-ghost use Prim.Native.Nat.{ℕ, _*_, _≤_};
+ghost use Prim.Native.Nat.{_*_, _≤_};
 ghost use lib.ListN.{length};
 ghost use Rattle.rules.specs.Store.{Numbers};
 ghost use Rattle.steps.specs.Shape.{homesOf, TablesReady};

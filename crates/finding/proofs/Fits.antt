@@ -1,5 +1,5 @@
 -- What an accepted record and accepted lengths say of the tables and of the queue. Assumes nothing.
-use Prim.Native.Nat.{ℕ, _*_, _≤_}
+use Prim.Native.Nat.{_*_, _≤_}
 use native.Mathlib.Omega.{arith}
 use lib.ListN.{length}
 use Rattle.numbers.specs.declared.Functions.{Functions}

@@ -14,7 +14,7 @@ use Rattle.numbers.specs.Homes.{home0, home1}
 use Rattle.numbers.proofs.Home.{home0-in-table, home1-in-table}
 use Rattle.rules.specs.Store.{Table, table-0, table-1, Cell, Entry, cellAt, Store, Numbers}
 use Rattle.rules.specs.Search.{inTable, searchQueue, search, noEntry, valueAt, lookup}
-use Rattle.rules.specs.Calls.{Answer as RulesAnswer, answer, find}
+use Rattle.rules.specs.Calls.{answer, find}
 use Rattle.layout.specs.Forms.{entryForm}
 use Rattle.layout.specs.Places.{FirstPlace}
 use Rattle.layout.proofs.Forms.{read-at}

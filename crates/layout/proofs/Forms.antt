@@ -7,7 +7,6 @@ use native.Mathlib.Nat.{mul-zero, mul-suc, zero-add, suc-add, mul-le-mul-left}
 use native.Mathlib.Numerals.{add-one, add-one-le}
 use lib.ListN.{length, getD, set, take, drop, length-append, length-drop, length-set, take-append-drop}
 use lib.Seq.{sets, sets-eq, take-add, take-all, drop-drop, drop-at, set-append-left}
-use Rattle.rules.specs.Store.{Cell, Entry, Pair}
 use Rattle.layout.specs.Forms.{Form, cellForm, entryForm, pairForm, readMany, writeMany}
 
 -- words stored behind others, and before others

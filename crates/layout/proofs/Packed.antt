@@ -1,15 +1,15 @@
 -- Laws of packed words, for queue and detector: one thing more, the front replaced, one gone, all gone, and rubbish cleared. Assumes nothing.
-use Prim.Native.Nat.{ℕ, zero, suc, _+_, _-_, _*_, _≤_, _<_}
+use Prim.Native.Nat.{ℕ, suc, _+_, _-_, _*_, _≤_}
 use mathlib.Core.Path.{_≡_, refl, sym, ap, _∙_}
-use mathlib.Core.List.{List, [], _∷_, _++_, append-assoc, append-nil}
+use mathlib.Core.List.{List, [], _∷_, _++_}
 use native.Mathlib.Omega.{arith}
-use native.Mathlib.Nat.{mul-zero, mul-suc, mul-add}
-use lib.ListN.{length, take, drop, replicate, length-append, length-replicate, length-drop, length-take}
-use lib.Seq.{sets, split-at, length-take-le}
+use native.Mathlib.Nat.{mul-suc, mul-add}
+use lib.ListN.{length, replicate, length-append}
+use lib.Seq.{sets}
 use Rattle.words.specs.Words.{padTo, cleared, closed}
 use Rattle.words.proofs.Pad.{length-pad, pad-push, pad-over, pad-close, pad-clear, pad-empty}
 use Rattle.layout.specs.Forms.{Form, readMany, writeMany, packed}
-use Rattle.layout.proofs.Forms.{Lawful, write-append, write-one, length-readMany, length-writeMany, read-written, write-readMany}
+use Rattle.layout.proofs.Forms.{Lawful, write-append, write-one, length-writeMany, read-written, write-readMany}
 
 module _ {A : Type 0} (f : Form A) (ok : Lawful f) where
   pub length-packed : (room : ℕ) (l : List A) → f .width * length l ≤ room → length (packed f room l) ≡ room

@@ -4,8 +4,8 @@ use mathlib.Core.Path.{_≡_, refl, sym, ap, subst, _∙_}
 use mathlib.Core.List.{List, [], _∷_, _++_}
 use native.Mathlib.Omega.{arith}
 use native.Mathlib.Nat.{mul-zero, mul-suc}
-use lib.ListN.{length, getD, drop, length-drop}
-use lib.Seq.{sets, drop-cons}
+use lib.ListN.{length, drop, length-drop}
+use lib.Seq.{sets}
 use Rattle.words.specs.Words.{cleared, closed}
 use Rattle.layout.specs.Forms.{Form, readMany, packed}
 use Rattle.layout.proofs.Forms.{Lawful, length-readMany}

@@ -1,8 +1,8 @@
 // Looking through the words of queue and detector, and clearing what lies past their lengths. Inner functions: their callers show what they require.
 ghost use mathlib.Core.Path.{_≡_};
-ghost use mathlib.Core.Bool.{Bool, _&&_};
+ghost use mathlib.Core.Bool.{_&&_};
 ghost use lib.Dec.{eqb};
-ghost use Prim.Native.Nat.{ℕ, _*_, _≤_};
+ghost use Prim.Native.Nat.{_*_, _≤_};
 ghost use lib.ListN.{length};
 ghost use Rattle.rules.specs.Store.{meant, sameTable};
 ghost use Rattle.rules.specs.Step.{isMarked};

@@ -1,5 +1,5 @@
 -- Lists as finite sets: a member, no member twice, each member once. Assumes nothing.
-use mathlib.Core.Path.{_≡_, refl, subst}
+use mathlib.Core.Path.{refl, subst}
 use mathlib.Core.Logic.{_⊎_, inl, inr, ⊎-elim}
 use mathlib.Core.List.{List, [], _∷_, List·Memᴰ, List·Memᴰ·head as here, List·Memᴰ·tail as there, List·Memᴰ·cases-cons as split, Memᴰ·cast as cast, List·Memᴰ·not-nil as not-nil}
 

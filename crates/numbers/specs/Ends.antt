@@ -1,7 +1,7 @@
 -- The ends of each range of the table "Numbers": the first and the last number are in it, their neighbours are not. The claim. Assumes nothing.
 use Prim.Native.Nat.{ℕ}
 use mathlib.Core.Path.{_≡_}
-use mathlib.Core.Bool.{Bool, true, false, not, _&&_}
+use mathlib.Core.Bool.{Bool, true, not, _&&_}
 use mathlib.Core.List.{List, [], _∷_}
 use Rattle.numbers.specs.Ranges.{cellsInRange, queueRoomInRange, detectorRoomInRange, stepLimitInRange, goodKey, valueInRange, multiplierInRange, addendInRange}
 

@@ -1,7 +1,6 @@
 -- Reading the bytes of a command gives the command and the next place. Assumes nothing.
 use Prim.Native.Nat.{ℕ, _+_, _/_, _%_, _*_, _^_, _<_}
 use mathlib.Core.Path.{_≡_, refl, sym, _∙_, ap}
-use mathlib.Core.Bool.{true}
 use mathlib.Core.List.{List, [], _∷_, _++_, append-assoc}
 use mathlib.Core.Option.{some}
 use native.Mathlib.Omega.{arith}
@@ -9,12 +8,11 @@ use native.Mathlib.Nat.{div-div-eq-div-mul, div-add-mod, mod-eq-of-lt}
 use lib.ListN.{length, getD, length-append}
 use lib.Seq.{getD-append-add, getD-append-seam}
 use Rattle.records.specs.Word.{littleEndian, wordAt}
-use Rattle.records.specs.Record.{Fields, fieldsAt, isGood, ifGood, orRefuse10, recordAt, readAt}
-use Rattle.records.specs.Told.{fieldsOf, told}
+use Rattle.records.specs.Record.{Fields, fieldsAt, isGood, ifGood, orRefuse10, recordAt}
+use Rattle.records.specs.Told.{fieldsOf}
 use Rattle.records.specs.Bytes.{bytesOfWord, bytesOf, WordsFit, RoundTrip}
 use Rattle.records.specs.declared.Command.{Command}
 use Rattle.records.specs.declared.Command.the-variants.{Define, Change, Find, Remove, Settle}
-use Rattle.records.specs.declared.Reading.the-variants.{Good}
 use Rattle.records.proofs.Marks.{same-fields}
 use Rattle.records.proofs.Places.{has-ten}
 

@@ -1,6 +1,6 @@
 -- Remove: one entry gone from packed words, and the cases of remove by the place that the search answers. Assumes nothing.
 use Prim.Native.Nat.{ℕ, zero, suc, _+_, _-_, _*_, _≤_, _<_}
-use mathlib.Core.Path.{_≡_, refl, sym, ap, subst, _∙_}
+use mathlib.Core.Path.{_≡_, refl, sym, ap, _∙_}
 use mathlib.Core.Bool.{Bool, true, false, not, true≢false}
 use mathlib.Core.List.{List, [], _∷_, _++_}
 use mathlib.Core.Option.{some}
@@ -20,7 +20,6 @@ use Rattle.steps.proofs.InTable.{cell-read}
 use Rattle.numbers.specs.declared.Functions.{Functions}
 use Rattle.layout.specs.Memory.{Lent, lent, wordsIn, Tidied}
 use Rattle.numbers.specs.declared.Rooms.{Rooms}
-use Rattle.finding.specs.declared.Place.{Place}
 use Rattle.finding.specs.declared.Place.the-variants.{Table0, Table1, Waiting, Nowhere}
 use Rattle.finding.specs.Inner.{numbersOf, storeOf, withLens, answered, Outcome, outcome, leaves, RoomsFit, FitIn, Located, Told}
 use Rattle.removing.specs.Gone.{CellGone, EntryGone}

@@ -1,6 +1,6 @@
 // Remove, the record and the lengths being accepted. Inner functions: their callers show what they require.
 ghost use mathlib.Core.Path.{_≡_};
-ghost use Prim.Native.Nat.{ℕ, _+_, _*_, _<_};
+ghost use Prim.Native.Nat.{_+_, _*_, _<_};
 ghost use lib.ListN.{length};
 ghost use Rattle.rules.specs.Calls.{remove};
 ghost use Rattle.layout.specs.Memory.{lent};

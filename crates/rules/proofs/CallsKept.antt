@@ -1,29 +1,29 @@
 -- Every call keeps a sound store sound, and changes what lookup answers only as it says. Assumes nothing.
 use Prim.Native.Nat.{ℕ, zero, suc, _+_, _≤_, _<_}
 use mathlib.Core.Path.{_≡_, refl, sym, _∙_, ap, subst}
-use mathlib.Core.Logic.{_⊎_, inl, inr, _≢_, _↔_, ⊎-elim}
-use mathlib.Core.Bool.{Bool, true, false, cond, not, _&&_}
-use mathlib.Core.List.{List, [], _∷_, _++_, List·Memᴰ·head as here, List·Memᴰ·tail as there, List·Memᴰ·cases-cons as split, List·Memᴰ·not-nil as not-nil}
-use mathlib.Core.Option.{Option, none, some}
+use mathlib.Core.Logic.{_⊎_, inl, inr, _≢_, ⊎-elim}
+use mathlib.Core.Bool.{Bool, true, false, cond, not}
+use mathlib.Core.List.{List, [], _∷_, List·Memᴰ·head as here, List·Memᴰ·tail as there, List·Memᴰ·cases-cons as split}
+use mathlib.Core.Option.{none, some}
 use native.Mathlib.Omega.{arith}
 use native.Mathlib.Decide.{ℕ-discrete}
-use borrow.Author.Tests.{eqb-true, eqb-false, eq-eqb, ne-eqb, leb-false}
+use borrow.Author.Tests.{eqb-true, eqb-false, leb-false}
 use lib.Dec.{eqb, leb, ltb}
-use lib.ListN.{length, length-set, getD, set}
+use lib.ListN.{length, length-set, set}
 use Rattle.lists.specs.Lists.{_∈_, NoDup}
-use Rattle.lists.proofs.Weigh.{weigh, weigh-append, weigh-set, isOne, isOne-same, isOne-other, isOne-small, times-none}
+use Rattle.lists.proofs.Weigh.{weigh, weigh-set, isOne, isOne-same, isOne-other, isOne-small, times-none}
 use Rattle.numbers.specs.Ranges.{goodKey}
 use Rattle.numbers.proofs.Ranges.{good-nonzero}
-use Rattle.rules.specs.Store.{Table, Cell, freeCell, Entry, tableOf, cellAt, putCell, Store, store, Numbers, IntoCells}
+use Rattle.rules.specs.Store.{Table, Cell, freeCell, Entry, cellAt, Store, Numbers, IntoCells}
 use Rattle.rules.specs.Step.{taken}
 use Rattle.rules.specs.Run.{run}
 use Rattle.rules.specs.Search.{Place, inTable, waitingAt, nowhere, search, lookup, noEntry, entryAt, keyAt, valueAt}
-use Rattle.rules.specs.Calls.{joined, withEntryValue, withValue, dropAt, without, Answer, Outcome, refused, accepted, acceptedRun, refuseIf, refuse5, orRefuse7, find, define, change, remove, settle, Call, Find, Define, Change, Remove, Settle, does}
+use Rattle.rules.specs.Calls.{joined, withEntryValue, withValue, dropAt, without, Outcome, refused, accepted, acceptedRun, refuseIf, refuse5, orRefuse7, find, define, change, remove, settle, Call, Find, Define, Change, Remove, Settle, does}
 use Rattle.rules.specs.Sound.{present, IsGood, SoundContents}
-use Rattle.rules.specs.Keeps.{isAccepted, afterCall, CallKeepsSound, CallChangesLookup}
-use Rattle.rules.proofs.Weights.{contents, only, only-free, only-held, weightIn, waitingWeight, weight, weight-put, times-present, to-present, of-present-weight, once-weight, weight-once, to-contents, of-contents-weight, isCell, isCell-same, isCell-other, held-weight}
+use Rattle.rules.specs.Keeps.{afterCall, CallKeepsSound, CallChangesLookup}
+use Rattle.rules.proofs.Weights.{contents, only-free, only-held, waitingWeight, weight, weight-put, times-present, to-present, of-present-weight, once-weight, weight-once, to-contents, of-contents-weight, isCell, isCell-same, isCell-other, held-weight}
 use Rattle.rules.proofs.Lookup.{Looked, looked, lookup-held, lookup-absent}
-use Rattle.rules.proofs.Parts.{TablesSound, EntrySound, QueueSound, MarksSound, parts, tables-of, queue-of, marks-of, CellSound, put-sound, queue-behind}
+use Rattle.rules.proofs.Parts.{EntrySound, parts, tables-of, queue-of, marks-of, put-sound, queue-behind}
 use Rattle.rules.proofs.Places.{entry-within, entry-in}
 use Rattle.rules.proofs.Kept.{lookup-as, waiting-behind, run-sound-same, run-lookup}
 

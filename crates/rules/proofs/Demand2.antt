@@ -1,18 +1,17 @@
 -- Demand 2, proved along the history. Assumes nothing.
 use Prim.Native.Nat.{ℕ}
 use mathlib.Core.Path.{_≡_, refl, sym, _∙_, ap, subst}
-use mathlib.Core.Logic.{_≢_, ⊎-elim}
-use mathlib.Core.Bool.{Bool, true, not}
+use mathlib.Core.Logic.{⊎-elim}
+use mathlib.Core.Bool.{not}
 use mathlib.Core.Option.{Option, none, some, Option·none-ne-some}
 use Rattle.lists.specs.Lists.{_∈_}
-use Rattle.numbers.specs.Ranges.{goodKey}
 use Rattle.numbers.proofs.Ranges.{good-nonzero}
-use Rattle.rules.specs.Store.{Store, Numbers, IntoCells, fresh}
-use Rattle.rules.specs.Search.{Place, keyAt, search, lookup}
-use Rattle.rules.specs.Calls.{Call, Answer, refuseIf, orRefuse7, find, does}
+use Rattle.rules.specs.Store.{Store, Numbers, IntoCells}
+use Rattle.rules.specs.Search.{search, lookup}
+use Rattle.rules.specs.Calls.{refuseIf, orRefuse7, find, does}
 use Rattle.rules.specs.Sound.{present, IsGood, SoundContents}
 use Rattle.rules.specs.Keeps.{afterCall}
-use Rattle.rules.specs.Demand2.{Event, opened, openRefused, called, History, opens, next, Held, after, held, recall, recalled, told, Lies, MapProperty, Demand2}
+use Rattle.rules.specs.Demand2.{opened, openRefused, called, History, opens, next, held, recalled, told, Lies, Demand2}
 use Rattle.rules.proofs.Places.{in-present}
 use Rattle.rules.proofs.Lookup.{Looked, looked, search-finds}
 use Rattle.rules.proofs.CallsKept.{call-keeps-sound, call-changes-lookup}

@@ -1,15 +1,15 @@
 -- What the groups of keys give: keys and cells counted against each other, and each key has a group. Assumes nothing.
-use mathlib.Core.Path.{_≡_, refl, sym, _∙_, ap, subst}
-use mathlib.Core.Logic.{_⊎_, inl, inr, _≢_, ⊎-elim, ⊎-map}
-use mathlib.Core.List.{List, [], _∷_, _++_, map, List·Memᴰ·head as here, List·Memᴰ·tail as there, List·Memᴰ·cases-cons as split, Memᴰ·cast as cast, List·Memᴰ·not-nil as not-nil, List·Memᴰ·append-cases as append-cases, Memᴰ·append-left as append-left, Memᴰ·append-right as append-right}
-use Prim.Native.Nat.{ℕ, zero, suc, _+_, _*_, _≤_, _<_}
+use mathlib.Core.Path.{_≡_, refl, sym, ap, subst}
+use mathlib.Core.Logic.{⊎-elim}
+use mathlib.Core.List.{List, [], _∷_, map, List·Memᴰ·head as here, List·Memᴰ·tail as there, List·Memᴰ·cases-cons as split, Memᴰ·cast as cast, List·Memᴰ·not-nil as not-nil, List·Memᴰ·append-cases as append-cases, Memᴰ·append-left as append-left, Memᴰ·append-right as append-right}
+use Prim.Native.Nat.{ℕ, zero, suc, _+_, _≤_, _<_}
 use native.Mathlib.Omega.{arith}
 use native.Mathlib.Decide.{ℕ-discrete}
 use lib.ListN.{length}
-use Rattle.lists.specs.Lists.{_∈_, NoDup, nil, more, any?, mem?, eachOnce}
+use Rattle.lists.specs.Lists.{_∈_, NoDup, any?, mem?, eachOnce}
 use Rattle.lists.proofs.Sets.{Cut, cut, Rest, rest, pigeonhole, eachOnce-nodup, to-eachOnce, of-eachOnce, some, Sieve, sieve, to-map, of-map}
 use Rattle.rules.specs.Store.{Table, table-0, table-1, other}
-use Rattle.rules.specs.Groups.{Sided, sided-path, sided?, homeCell, Shares, Linked, itself, link, IsGroup, cellsOf}
+use Rattle.rules.specs.Groups.{Sided, sided?, homeCell, Shares, Linked, itself, link, IsGroup, cellsOf}
 
 -- what holds at a side and at the other holds at each
 pub both : (P : Table → Type 0) (s : Table) → P s → P (other s) → (t : Table) → P t

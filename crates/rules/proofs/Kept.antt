@@ -1,16 +1,15 @@
 -- Every step keeps what the store holds, so a sound store stays sound and lookup answers as before. Assumes nothing.
-use Prim.Native.Nat.{ℕ, zero, suc, _+_, _≤_, _<_}
+use Prim.Native.Nat.{ℕ, _+_, _<_}
 use mathlib.Core.Path.{_≡_, refl, sym, _∙_, ap, subst}
-use mathlib.Core.Logic.{_⊎_, inl, inr, _≢_, _↔_, ⊎-elim}
+use mathlib.Core.Logic.{_≢_, _↔_, ⊎-elim}
 use mathlib.Core.List.{List, [], _∷_, _++_, List·Memᴰ·head as here, List·Memᴰ·tail as there}
-use mathlib.Core.Option.{Option, none, some}
 use native.Mathlib.Omega.{arith}
 use lib.ListN.{length}
 use Rattle.lists.specs.Lists.{_∈_, NoDup}
 use Rattle.lists.proofs.Weigh.{weigh, weigh-append, isOne}
 use Rattle.numbers.proofs.Ranges.{good-nonzero}
-use Rattle.rules.specs.Store.{Table, other, meant, sideOf, Cell, Entry, Pair, tableOf, cellAt, putCell, Store, store, Numbers, IntoCells}
-use Rattle.rules.specs.Step.{taken, headed, pair, isMarked, landed, setAside, moved, done, Stepped, stepAt, step}
+use Rattle.rules.specs.Store.{Table, other, meant, Cell, Entry, cellAt, putCell, Store, Numbers, IntoCells}
+use Rattle.rules.specs.Step.{taken, headed, isMarked, landed, setAside, moved, stepAt, step}
 use Rattle.rules.specs.Run.{run}
 use Rattle.rules.specs.Search.{lookup}
 use Rattle.rules.specs.Sound.{present, IsGood, SoundContents}
@@ -19,7 +18,7 @@ use Rattle.rules.proofs.Steps.{by-kind, by-front}
 use Rattle.rules.proofs.Runs.{run-keeps}
 use Rattle.rules.proofs.Weights.{contents, only, only-free, only-held, weightIn, waitingWeight, weight, weight-put, to-present, of-present-weight, once-weight, weight-once, to-contents, of-contents-weight, isCell}
 use Rattle.rules.proofs.Lookup.{Looked, looked, lookup-held, lookup-absent}
-use Rattle.rules.proofs.Parts.{TablesSound, EntrySound, QueueSound, MarksSound, parts, tables-of, queue-of, marks-of, CellSound, put-sound, side-sound, queue-behind, queue-front, no-marks, mark-more}
+use Rattle.rules.proofs.Parts.{TablesSound, EntrySound, parts, tables-of, queue-of, marks-of, put-sound, side-sound, queue-behind, queue-front, no-marks, mark-more}
 
 -- two stores hold the same keys with the same values
 pub Same : Store → Store → Type 0

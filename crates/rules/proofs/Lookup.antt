@@ -1,5 +1,5 @@
 -- The search answers the one place where a key lies, so lookup answers what a sound store holds. Assumes nothing.
-use Prim.Native.Nat.{ℕ, zero, suc, _+_, _≤_, _<_}
+use Prim.Native.Nat.{ℕ, suc, _+_}
 use mathlib.Core.Path.{_≡_, refl, sym, _∙_, ap, subst}
 use mathlib.Core.Logic.{_⊎_, inl, inr, _≢_, ⊎-elim}
 use mathlib.Core.Bool.{Bool, true, false, cond}
@@ -8,10 +8,9 @@ use mathlib.Core.Option.{Option, none, some}
 use native.Mathlib.Omega.{arith}
 use borrow.Author.Tests.{eqb-true, eqb-false}
 use lib.Dec.{eqb}
-use lib.ListN.{length}
 use Rattle.lists.specs.Lists.{_∈_}
 use Rattle.numbers.proofs.Ranges.{good-nonzero}
-use Rattle.rules.specs.Store.{Table, table-0, table-1, Cell, Entry, cellAt, Store, Numbers}
+use Rattle.rules.specs.Store.{Table, table-0, table-1, Entry, cellAt, Store, Numbers}
 use Rattle.rules.specs.Search.{Place, inTable, waitingAt, nowhere, searchQueue, search, entryAt, keyAt, valueAt, lookup}
 use Rattle.rules.specs.Sound.{present, IsGood, SoundContents}
 use Rattle.rules.proofs.Weights.{contents}

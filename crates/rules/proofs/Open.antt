@@ -1,15 +1,14 @@
 -- A store just opened is sound and holds nothing. Assumes nothing.
-use Prim.Native.Nat.{ℕ, zero, suc, _≤_, _<_}
-use mathlib.Core.Path.{_≡_, refl, sym, _∙_, ap, subst}
-use mathlib.Core.Logic.{_≢_, ⊎-elim}
-use mathlib.Core.List.{List, [], _∷_, _++_, List·Memᴰ·not-nil as not-nil}
-use mathlib.Core.Option.{Option, none, some}
+use Prim.Native.Nat.{ℕ, zero, suc}
+use mathlib.Core.Path.{_≡_, refl, sym, ap, subst}
+use mathlib.Core.List.{[], List·Memᴰ·not-nil as not-nil}
+use mathlib.Core.Option.{none}
 use native.Mathlib.Omega.{arith}
 use lib.ListN.{length, replicate, getD, length-replicate}
 use Rattle.lists.specs.Lists.{_∈_, NoDup, nil}
-use Rattle.rules.specs.Store.{Table, table-0, table-1, Cell, freeCell, tableOf, cellAt, Store, Numbers, fresh}
+use Rattle.rules.specs.Store.{Table, table-0, table-1, Cell, freeCell, tableOf, cellAt, Numbers, fresh}
 use Rattle.rules.specs.Search.{lookup}
-use Rattle.rules.specs.Sound.{occupied, present, InRange, IsGood, SoundContents, Sound}
+use Rattle.rules.specs.Sound.{occupied, present, IsGood, SoundContents}
 use Rattle.rules.specs.Keeps.{OpenIsSound}
 use Rattle.rules.proofs.Parts.{parts, no-marks}
 use Rattle.rules.proofs.Lookup.{lookup-absent}

@@ -1,21 +1,21 @@
 -- Where the present keys lie: each at a place, and at one only. Assumes nothing.
-use Prim.Native.Nat.{ℕ, zero, suc, _+_, _≤_, _<_}
+use Prim.Native.Nat.{ℕ, zero, suc, _≤_, _<_}
 use mathlib.Core.Path.{_≡_, refl, sym, _∙_, ap, subst}
-use mathlib.Core.Logic.{_⊎_, inl, inr, _≢_, ⊎-elim}
+use mathlib.Core.Logic.{_≢_, ⊎-elim}
 use mathlib.Core.Bool.{Bool, true, false, cond}
-use mathlib.Core.List.{List, [], _∷_, _++_, map, List·Memᴰ·head as here, List·Memᴰ·tail as there, List·Memᴰ·cases-cons as split, Memᴰ·cast as cast, List·Memᴰ·not-nil as not-nil, List·Memᴰ·append-cases as append-cases, Memᴰ·append-left as append-left, Memᴰ·append-right as append-right}
-use mathlib.Core.Option.{Option, none, some}
+use mathlib.Core.List.{List, [], _∷_, map, List·Memᴰ·head as here, List·Memᴰ·tail as there, List·Memᴰ·cases-cons as split, Memᴰ·cast as cast, List·Memᴰ·not-nil as not-nil, List·Memᴰ·append-cases as append-cases, Memᴰ·append-left as append-left, Memᴰ·append-right as append-right}
+use mathlib.Core.Option.{some}
 use native.Mathlib.Omega.{arith}
 use native.Mathlib.Decide.{decLe}
 use borrow.Author.Tests.{eqb-true, eqb-false}
 use lib.Dec.{eqb}
 use lib.ListN.{length, getD, List·getD-eq-default}
-use Rattle.lists.specs.Lists.{_∈_, NoDup, nil, more}
+use Rattle.lists.specs.Lists.{_∈_, NoDup}
 use Rattle.lists.proofs.Sets.{to-map, of-map, nodup-head, nodup-tail, nodup-right, disjoint}
-use Rattle.rules.specs.Store.{Table, table-0, table-1, Cell, freeCell, Entry, Tables, tableOf, cellAt, Store, Numbers}
+use Rattle.rules.specs.Store.{Table, table-0, table-1, Cell, freeCell, Entry, tableOf, cellAt, Store, Numbers}
 use Rattle.rules.specs.Step.{taken}
 use Rattle.rules.specs.Search.{Place, inTable, waitingAt, nowhere, noEntry, entryAt, keyAt, valueAt}
-use Rattle.rules.specs.Sound.{occupied, cellKeys, entryKeys, present, IsGood, SoundContents}
+use Rattle.rules.specs.Sound.{occupied, cellKeys, entryKeys, present, SoundContents}
 use Rattle.rules.proofs.Weights.{contents}
 use Rattle.numbers.proofs.Ranges.{good-nonzero}
 

@@ -11,10 +11,10 @@ use borrow.Author.Tests.{eqb-true}
 use Rattle.lists.specs.Lists.{_∈_}
 use Rattle.lists.proofs.Sets.{map-append, turned, turned-snoc, length-turned, to-turned}
 use Rattle.numbers.proofs.Ranges.{good-nonzero}
-use Rattle.rules.specs.Store.{Table, table-0, table-1, other, sameTable, meant, sideOf, Cell, Entry, Pair, Tables, tableOf, cellAt, putCell, Store, Numbers, IntoCells}
+use Rattle.rules.specs.Store.{Table, table-0, table-1, other, sameTable, meant, Cell, Entry, Pair, Tables, tableOf, cellAt, putCell, Store, Numbers, IntoCells}
 use Rattle.rules.specs.Step.{isPair, isMarked, pair, headed, taken, moved, stepAt, step}
 use Rattle.rules.specs.Search.{inTable, waitingAt, keyAt}
-use Rattle.rules.specs.Sound.{IsGood, present, SoundContents}
+use Rattle.rules.specs.Sound.{present, SoundContents}
 use Rattle.rules.specs.Groups.{Sided, sided-path, homeCell}
 use Rattle.rules.proofs.Steps.{by-kind, by-front}
 use Rattle.rules.proofs.Places.{in-present, one-place}

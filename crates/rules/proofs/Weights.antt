@@ -1,13 +1,13 @@
 -- What a store holds, as one list and weighed: a key with its value, from both tables and the queue. Assumes nothing.
-use Prim.Native.Nat.{ℕ, zero, suc, _+_, _≤_, _<_}
+use Prim.Native.Nat.{ℕ, _+_, _≤_, _<_}
 use mathlib.Core.Path.{_≡_, refl, sym, _∙_, ap, subst}
-use mathlib.Core.Logic.{_⊎_, inl, inr, _≢_, _↔_, ⊎-elim}
+use mathlib.Core.Logic.{_≢_}
 use mathlib.Core.Bool.{Bool, true, false, cond, _&&_}
-use mathlib.Core.List.{List, [], _∷_, _++_, map, append-assoc, map-map}
+use mathlib.Core.List.{List, [], _∷_, _++_, map, map-map}
 use native.Mathlib.Omega.{arith}
 use borrow.Author.Tests.{eqb-true, eq-eqb, ne-eqb}
 use lib.Dec.{eqb}
-use lib.ListN.{length, getD, set}
+use lib.ListN.{length}
 use Rattle.lists.specs.Lists.{_∈_, NoDup}
 use Rattle.lists.proofs.Sets.{map-append}
 use Rattle.lists.proofs.Weigh.{weigh, weigh-append, weigh-set, weigh-mem, weigh-some, weigh-map, isOne, times, to-times, of-times, nodup-times, times-nodup}

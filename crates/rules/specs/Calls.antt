@@ -6,7 +6,7 @@ use mathlib.Core.Option.{Option, none, some}
 use lib.Dec.{leb, ltb}
 use lib.ListN.{length, set}
 use Rattle.numbers.specs.Ranges.{goodKey}
-use Rattle.rules.specs.Store.{Table, Cell, freeCell, Entry, cellAt, putCell, Store, store, Numbers}
+use Rattle.rules.specs.Store.{freeCell, Entry, cellAt, putCell, Store, store, Numbers}
 use Rattle.rules.specs.Run.{Ran, run}
 use Rattle.rules.specs.Search.{Place, inTable, waitingAt, nowhere, search, lookup, entryAt}
 

@@ -1,6 +1,6 @@
 -- Document 01, "Check: accepted exactly for a sound store": the test, in time linear in the tables. A key at home can have its twin only in its other
 -- home or in the queue, so no cell is compared with more than one other. Assumes nothing.
-use Prim.Native.Nat.{ℕ, zero, suc, _≤_}
+use Prim.Native.Nat.{ℕ, suc, _≤_}
 use mathlib.Core.Path.{_≡_}
 use mathlib.Core.Logic.{_↔_}
 use mathlib.Core.Bool.{Bool, true, false, cond, not, _&&_, _||_}

@@ -5,7 +5,7 @@ use mathlib.Core.Path.{_≡_}
 use mathlib.Core.Logic.{_≢_}
 use mathlib.Core.Option.{Option, none, some}
 use Rattle.rules.specs.Store.{Store, Numbers, IntoCells, fresh}
-use Rattle.rules.specs.Search.{Place, keyAt, lookup}
+use Rattle.rules.specs.Search.{Place, keyAt}
 use Rattle.rules.specs.Calls.{Call, Answer, answer, find, does}
 use Rattle.rules.specs.Sound.{IsGood}
 use Rattle.rules.specs.Keeps.{afterCall}

@@ -1,5 +1,5 @@
 -- "most steps in one call", and that a refusal changes nothing. The claims, of every store, sound or not. Assumes nothing.
-use Prim.Native.Nat.{ℕ, _≤_}
+use Prim.Native.Nat.{_≤_}
 use mathlib.Core.Path.{_≡_}
 use mathlib.Core.Logic.{_≢_}
 use Rattle.rules.specs.Store.{Store, Numbers}

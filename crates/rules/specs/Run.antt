@@ -4,7 +4,7 @@ use mathlib.Core.Bool.{Bool, true, false, cond}
 use mathlib.Core.List.{List, [], _∷_}
 use lib.Dec.{eqb}
 use Rattle.rules.specs.Store.{Entry, Store, Numbers}
-use Rattle.rules.specs.Step.{Stepped, step}
+use Rattle.rules.specs.Step.{step}
 
 -- what some steps leave, "the number of steps above that were done, and how many of them were of kind 3"
 pub record Ran : Type 0 where

@@ -1,11 +1,11 @@
 -- The search beneath find, define, change and remove: where a key lies. Assumes nothing.
-use Prim.Native.Nat.{ℕ, zero, suc}
-use mathlib.Core.Bool.{Bool, cond}
+use Prim.Native.Nat.{ℕ, suc}
+use mathlib.Core.Bool.{cond}
 use mathlib.Core.List.{List, [], _∷_}
 use mathlib.Core.Option.{Option, none, some}
 use lib.Dec.{eqb}
 use lib.ListN.{getD}
-use Rattle.rules.specs.Store.{Table, table-0, table-1, Cell, Entry, cellAt, Store, Numbers}
+use Rattle.rules.specs.Store.{Table, table-0, table-1, Entry, cellAt, Store, Numbers}
 
 -- a cell of a table, a queue place counted from 0 at the front, or nowhere
 pub data Place : Type 0 where

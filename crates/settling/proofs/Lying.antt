@@ -1,23 +1,22 @@
 -- How words that hold a store of the rules lie: they are that store's words, tidied words hold the same store, and a run's words are its outcome.
 -- Assumes nothing.
-use Prim.Native.Nat.{ℕ, _*_, _≤_, _<_}
-use mathlib.Core.Path.{_≡_, refl, sym, _∙_, ap, subst}
-use mathlib.Core.List.{List, [], _∷_}
+use Prim.Native.Nat.{ℕ, _*_, _≤_}
+use mathlib.Core.Path.{_≡_, refl, sym, _∙_, ap}
+use mathlib.Core.List.{List}
 use native.Mathlib.Omega.{arith}
 use lib.ListN.{length}
-use Rattle.rules.specs.Store.{Store, Numbers}
-use Rattle.rules.specs.Run.{Ran, run}
-use Rattle.rules.specs.Calls.{answer}
-use Rattle.layout.specs.Forms.{cellForm, entryForm, pairForm, readMany, writeMany, packed}
-use Rattle.layout.proofs.Forms.{cell-lawful, entry-lawful, pair-lawful, length-readMany, write-all}
+use Rattle.rules.specs.Store.{Store}
+use Rattle.rules.specs.Run.{run}
+use Rattle.layout.specs.Forms.{cellForm, entryForm, pairForm, writeMany, packed}
+use Rattle.layout.proofs.Forms.{cell-lawful, length-readMany, write-all}
 use Rattle.steps.specs.declared.Ended.{Ended}
-use Rattle.kinds.specs.Shape.{cellsIn, entriesIn, pairsIn, Ready}
-use Rattle.steps.specs.Shape.{storeIn, TablesReady, StepsWith, Holds, Runs}
+use Rattle.kinds.specs.Shape.{Ready}
+use Rattle.steps.specs.Shape.{StepsWith, Holds, Runs}
 use Rattle.steps.proofs.Going.{holds-store, holds-queue, holds-detector, holds-ready}
 use Rattle.numbers.specs.declared.Functions.{Functions}
 use Rattle.layout.specs.Memory.{Lent, lent, wordsIn, Tidied}
 use Rattle.numbers.specs.declared.Rooms.{Rooms}
-use Rattle.finding.specs.Inner.{numbersOf, storeOf, wordsOf, withLens, Outcome, outcome, answered, FitIn, Told, tells}
+use Rattle.finding.specs.Inner.{numbersOf, storeOf, wordsOf, withLens, outcome, FitIn, Told, tells}
 use Rattle.settling.specs.Ran.{ranOutcome}
 
 -- an outcome by its five parts

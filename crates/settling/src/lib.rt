@@ -1,6 +1,6 @@
 // Runs of steps from accepted lengths, and settle. Inner functions: their callers show what they require.
 ghost use mathlib.Core.Path.{_≡_};
-ghost use Prim.Native.Nat.{ℕ, _≤_};
+ghost use Prim.Native.Nat.{_≤_};
 ghost use Rattle.rules.specs.Run.{run};
 ghost use Rattle.rules.specs.Calls.{settle};
 ghost use Rattle.layout.specs.Memory.{lent};

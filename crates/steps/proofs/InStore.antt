@@ -1,20 +1,19 @@
 -- From a step in one table to the step of the rules. Assumes nothing.
-use Prim.Native.Nat.{ℕ, zero, suc, _+_, _-_, _*_, _≤_, _<_}
+use Prim.Native.Nat.{ℕ, zero, suc, _<_}
 use mathlib.Core.Path.{_≡_, refl, sym, ap, subst, _∙_}
 use mathlib.Core.Logic.{_≢_}
-use mathlib.Core.Bool.{Bool, true, false, cond}
-use mathlib.Core.List.{List, [], _∷_, _++_}
+use mathlib.Core.List.{List, _∷_}
 use native.Mathlib.Omega.{arith}
 use borrow.Author.Tests.{eq-eqb, ne-eqb}
-use lib.ListN.{length, getD, drop}
-use Rattle.rules.specs.Store.{Table, table-0, table-1, meant, Cell, Entry, Pair, Tables, Store, Numbers}
+use lib.ListN.{getD, drop}
+use Rattle.rules.specs.Store.{Table, table-0, table-1, meant, Cell, Entry, Tables, Store, Numbers}
 use Rattle.rules.specs.Step.{Stepped, stepAt, stepFrom, step}
-use Rattle.layout.specs.Forms.{entryForm, readMany}
+use Rattle.layout.specs.Forms.{readMany}
 use Rattle.numbers.specs.declared.Functions.{Functions}
 use Rattle.numbers.specs.Homes.{home0, home1}
 use Rattle.kinds.specs.declared.Turn.{Turn}
-use Rattle.kinds.specs.Shape.{cellsIn, entriesIn, pairsIn, entry}
-use Rattle.steps.specs.Shape.{withTable, After, homesOf, StepsWith, storeIn, Holds, Follows}
+use Rattle.kinds.specs.Shape.{cellsIn, entriesIn, entry}
+use Rattle.steps.specs.Shape.{After, homesOf, StepsWith, storeIn, Follows}
 
 -- the front entry and the rest
 front : (ql : ℕ) (q : List ℕ) → 0 < ql → entriesIn ql q ≡ entry (getD q 0 0) (getD q 1 0) (getD q 2 0) ∷ drop 1 (entriesIn ql q)

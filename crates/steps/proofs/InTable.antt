@@ -1,7 +1,7 @@
 -- From the words that each kind of step leaves to what the rules leave, in one table. Assumes nothing.
 use Prim.Native.Nat.{ℕ, zero, suc, _+_, _-_, _*_, _≤_, _<_}
-use mathlib.Core.Path.{_≡_, refl, sym, ap, subst, _∙_}
-use mathlib.Core.Logic.{_⊎_, inl, inr, _≢_, ⊎-elim}
+use mathlib.Core.Path.{_≡_, refl, sym, ap, _∙_}
+use mathlib.Core.Logic.{_≢_, ⊎-elim}
 use mathlib.Core.Bool.{Bool, true, false, _||_, true≢false}
 use mathlib.Core.List.{List, [], _∷_, _++_}
 use native.Mathlib.Omega.{arith}
@@ -10,11 +10,11 @@ use borrow.Author.Tests.{leb-true, leb-false}
 use lib.Dec.{leb}
 use lib.ListN.{length, getD, set, drop, length-append}
 use lib.Seq.{sets, getD-drop}
-use Rattle.rules.specs.Store.{Table, table-0, table-1, other, meant, sideOf, Cell, freeCell, Entry, Pair, Tables, cellAt, putCell, Store, store}
-use Rattle.rules.specs.Step.{taken, isMarked, landed, setAside, moved, Stepped, done, stepAt}
+use Rattle.rules.specs.Store.{Table, table-0, table-1, other, meant, sideOf, Cell, freeCell, Entry, cellAt, putCell, Store}
+use Rattle.rules.specs.Step.{taken, isMarked, Stepped, stepAt}
 use Rattle.rules.proofs.Steps.{by-kind}
-use Rattle.layout.specs.Forms.{cellForm, entryForm, pairForm, readMany, packed}
-use Rattle.layout.proofs.Forms.{cell-lawful, entry-lawful, pair-lawful, length-readMany, read-at, read-set}
+use Rattle.layout.specs.Forms.{cellForm, entryForm, pairForm, packed}
+use Rattle.layout.proofs.Forms.{cell-lawful, entry-lawful, length-readMany, read-at, read-set}
 use Rattle.layout.proofs.Ready.{rest-count}
 use Rattle.kinds.specs.declared.Turn.{Turn}
 use Rattle.kinds.specs.Shape.{cellsIn, entriesIn, pairsIn, entry, pair, turn, Ready, Landed, Aside, Swapped}

@@ -36,11 +36,12 @@ pub record TablesReady (r : ℕ) (t0 t1 : List ℕ) : Type 0 where
   pub first : length t0 ≡ 2 * r
   pub second : length t1 ≡ 2 * r
 
--- numbers with these functions and this detector room
+-- the home functions, by table
 abbrev pub homesOf : Functions → Table → ℕ → ℕ
 homesOf f table-0 x = home0 f x
 homesOf f table-1 x = home1 f x
 
+-- numbers with these functions and this detector room
 pub record StepsWith (n : Numbers) (f : Functions) (room : ℕ) : Type 0 where
   pub detector-room : n .D ≡ room
   pub homes : n .home ≡ homesOf f

@@ -1,16 +1,15 @@
 -- Check accepts exactly a sound store. Assumes nothing.
 use Prim.Native.Nat.{ℕ, zero, suc, _+_, _-_, _*_, _≤_}
-use mathlib.Core.Path.{_≡_, refl, sym, _∙_, ap, subst}
-use mathlib.Core.Logic.{_≢_, _↔_}
-use mathlib.Core.Bool.{Bool, true, false, cond, _&&_, and-eq-true-iff, false≢true}
+use mathlib.Core.Path.{_≡_, refl, sym, _∙_, ap}
+use mathlib.Core.Bool.{Bool, true, false, cond, _&&_, and-eq-true-iff}
 use mathlib.Core.List.{List, [], _∷_}
 use native.Mathlib.Omega.{arith}
 use native.Mathlib.Decide.{ℕ-discrete}
 use borrow.Author.Tests.{eqb-true, eq-eqb}
-use lib.Dec.{eqb, leb}
-use lib.ListN.{length, getD, drop}
+use lib.Dec.{eqb}
+use lib.ListN.{getD, drop}
 use lib.Seq.{getD-drop}
-use Rattle.rules.specs.Store.{Table, table-0, table-1, tableOf, Numbers}
+use Rattle.rules.specs.Store.{table-0, table-1, Numbers}
 use Rattle.rules.specs.Calls.{answer}
 use Rattle.rules.specs.Check.{isSound, Sized}
 use Rattle.rules.proofs.Check.{check-is-exact as rules-check-is-exact}
@@ -24,7 +23,7 @@ use Rattle.store.specs.declared.Control.{Control}
 use Rattle.store.specs.declared.Answer.{Answer}
 use Rattle.layout.specs.Memory.{Lent}
 use Rattle.store.specs.Memory.{functionsOf, numbersOf, storeOf}
-use Rattle.store.specs.Refusals.{inRange, sized, filled, Outcome, outcome, answered, keeps, unlessFault}
+use Rattle.store.specs.Refusals.{inRange, filled, Outcome, outcome, answered, keeps, unlessFault}
 use Rattle.store.specs.Calls.{checking, checked}
 use Rattle.faults.specs.Faults.{faultOf}
 use Rattle.faults.proofs.Accepted.{both, accepted-tests}

@@ -4,7 +4,7 @@ use Rattle.store.proofs.Written.{open-is-sound}
 use Rattle.store.proofs.Simulation.{call-keeps-sound}
 use Rattle.store.proofs.Bound.{one-outcome}
 use Rattle.store.proofs.Checking.{check-is-exact}
-use Rattle.store.proofs.Demand1.{call-refusals-change-nothing, open-refusals-give-zeros, calls-are-limited}
+use Rattle.store.proofs.Demand1.{call-refusals-change-nothing, check-changes-nothing, open-refusals-give-zeros, calls-are-limited}
 use Rattle.store.proofs.Demand2.{demand-2}
 use Rattle.store.proofs.Demand3.{demand-3, demand-3-converse}
 
@@ -15,6 +15,7 @@ claims = record {
   call-keeps-sound = call-keeps-sound;
   check-is-exact = check-is-exact;
   call-refusals-change-nothing = call-refusals-change-nothing;
+  check-changes-nothing = check-changes-nothing;
   open-refusals-give-zeros = open-refusals-give-zeros;
   calls-are-limited = calls-are-limited;
   demand-2 = demand-2;

@@ -15,10 +15,11 @@ use Rattle.store.specs.declared.Control.{Control}
 use Rattle.layout.specs.Memory.{Lent}
 use Rattle.store.specs.Memory.{numbersOf, storeOf, wordsOf, recordOf, withLens}
 use Rattle.store.specs.Refusals.{inRange, sized, filled, Outcome, keeps, refuseIf, unlessFault}
-use Rattle.store.specs.Calls.{zeros, opened, found, leaves, defined, changing, changed, removed, settled, does}
+use Rattle.store.specs.Calls.{zeros, opened, found, leaves, defined, changing, changed, removed, settled, does, checking, checked}
 use Rattle.changing.specs.Change.{putValue}
+use Rattle.checks.specs.Zeros.{soundIn}
 use Rattle.store.specs.Sound.{sizedIn}
-use Rattle.store.specs.Demand1.{Untouched, CallRefusalsChangeNothing, OpenRefusalsGiveZeros, Limited, CallsAreLimited}
+use Rattle.store.specs.Demand1.{Untouched, CallRefusalsChangeNothing, CheckChangesNothing, OpenRefusalsGiveZeros, Limited, CallsAreLimited}
 use Rattle.store.specs.Demand2.{plain}
 
 -- what holds of refusals 1, 2 and 3 and of what comes after them holds of the call
@@ -69,9 +70,12 @@ answers (Change x v) c m = accepts c m (change (numbersOf c) x v (storeOf c m) .
 answers (Remove x) c m = let o = remove (numbersOf c) x (storeOf c m) in accepts c m (o .answer) (wordsOf c (o .store)) (recordOf c (o .store))
 answers (Settle n) c m = let o = settle (numbersOf c) n (storeOf c m) in accepts c m (o .answer) (wordsOf c (o .store)) (recordOf c (o .store))
 
+kept-untouched : (c : Control) (m : Lent) (k : ℕ) → Untouched c m (keeps c m (answer k 0 0 0))
+kept-untouched c m k = record { words = refl; control = refl; no-steps = refl; no-moves = refl }
+
 pub call-refusals-change-nothing : CallRefusalsChangeNothing
 call-refusals-change-nothing call c m = subst (λ o. o .answer .number ≢ 0 → Untouched c m o) (does-is call c m)
-    (by-fault c m (goesOn call c m) (λ o. o .answer .number ≢ 0 → Untouched c m o) (λ k nz r. record { words = refl; control = refl; no-steps = refl; no-moves = refl }) on)
+    (by-fault c m (goesOn call c m) (λ o. o .answer .number ≢ 0 → Untouched c m o) (λ k nz r. kept-untouched c m k) on)
   where
     on : goesOn call c m .answer .number ≢ 0 → Untouched c m (goesOn call c m)
     on nz =
@@ -85,6 +89,15 @@ call-refusals-change-nothing call c m = subst (λ o. o .answer .number ≢ 0 →
           no-steps = ap (λ a. a .steps) (a .answer) ∙ u .no-steps;
           no-moves = ap (λ a. a .moves) (a .answer) ∙ u .no-moves;
         }
+
+pub check-changes-nothing : CheckChangesNothing
+unfolding checked checking
+check-changes-nothing c m = by-fault c m (checking c m) (Untouched c m) (λ k nz. kept-untouched c m k)
+    (go (soundIn (numbersOf c) (c .r) (c .«queue_len») (c .«detector_len») (m .table0) (m .table1) (m .queue) (m .detector)))
+  where
+    go : (b : Bool) → Untouched c m (cond b (keeps c m (answer 0 0 0 0)) (keeps c m (answer 9 0 0 0)))
+    go true = kept-untouched c m 0
+    go false = kept-untouched c m 9
 
 pub calls-are-limited : CallsAreLimited
 calls-are-limited call c m = subst (Limited c) (does-is call c m)
@@ -112,5 +125,4 @@ by-open c m P one two accepted = go (inRange c) refl (sizedIn c m) refl
 
 pub open-refusals-give-zeros : OpenRefusalsGiveZeros
 open-refusals-give-zeros c m = by-open c m (λ o. o .answer .number ≢ 0 → Untouched zeros m o)
-    (λ nz. record { words = refl; control = refl; no-steps = refl; no-moves = refl })
-    (λ nz. record { words = refl; control = refl; no-steps = refl; no-moves = refl }) (λ e f nz. absurd (nz refl))
+    (λ nz. kept-untouched zeros m 1) (λ nz. kept-untouched zeros m 2) (λ e f nz. absurd (nz refl))

@@ -1,8 +1,8 @@
 -- Open: its refusals, and that zeros are the words of a store just opened. Assumes nothing.
-use Prim.Native.Nat.{ℕ, zero, suc, _+_, _-_, _*_, _≤_}
+use Prim.Native.Nat.{ℕ, zero, suc, _*_}
 use mathlib.Core.Path.{_≡_, refl, sym, _∙_, ap}
 use mathlib.Core.Bool.{Bool, true, false, cond, not, true≢false}
-use mathlib.Core.List.{List, [], _∷_, _++_}
+use mathlib.Core.List.{List, [], _∷_}
 use mathlib.Core.Logic.{_≢_}
 use native.Mathlib.Omega.{arith}
 use borrow.Author.Tests.{le-leb}
@@ -10,9 +10,9 @@ use native.Mathlib.Nat.{sub-zero}
 use lib.ListN.{length, replicate}
 use Rattle.words.specs.Words.{cleared, padTo}
 use Rattle.words.proofs.Pad.{pad-clear}
-use Rattle.rules.specs.Store.{Cell, freeCell, fresh}
+use Rattle.rules.specs.Store.{freeCell, fresh}
 use Rattle.rules.specs.Calls.{answer}
-use Rattle.layout.specs.Forms.{cellForm, entryForm, pairForm, writeMany, packed}
+use Rattle.layout.specs.Forms.{cellForm, writeMany, packed}
 use Rattle.faults.specs.Faults.{withinRooms, faultOf}
 use Rattle.faults.proofs.Accepted.{accepted-tests}
 use Rattle.store.specs.declared.Control.{Control}

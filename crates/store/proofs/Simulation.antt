@@ -23,7 +23,7 @@ use Rattle.rules.proofs.CallsKept.{by-found, call-keeps-sound as rules-keep-sou
 use Rattle.store.specs.declared.Control.{Control}
 use Rattle.layout.specs.Memory.{Lent}
 use Rattle.store.specs.Memory.{functionsOf, roomsOf, numbersOf, storeOf, wordsOf, recordOf}
-use Rattle.store.specs.Refusals.{filled, Outcome, outcome, answered, keeps}
+use Rattle.store.specs.Refusals.{Outcome, outcome, answered, keeps}
 use Rattle.faults.specs.Faults.{withinRooms, faultOf}
 use Rattle.faults.proofs.Accepted.{ranges}
 use Rattle.store.specs.Calls.{leaves, changing, does}

@@ -11,9 +11,8 @@ use Rattle.layout.specs.Memory.{Lent}
 use Rattle.changing.specs.Change.{putValue}
 use Rattle.checks.specs.Zeros.{soundIn}
 use Rattle.store.specs.declared.Control.{Control}
-use Rattle.store.specs.declared.Answer.{Answer}
 use Rattle.store.specs.Memory.{numbersOf, storeOf, wordsOf, recordOf, withLens}
-use Rattle.store.specs.Refusals.{inRange, sized, Outcome, outcome, answered, keeps, refuseIf, unlessFault}
+use Rattle.store.specs.Refusals.{inRange, sized, Outcome, outcome, answered, keeps, unlessFault}
 
 -- a record of zeros
 abbrev pub zeros : Control

@@ -1,7 +1,7 @@
 -- All that is claimed of the calls beside their contracts, on one page. `proofs/Claims.antt` proves it. Assumes nothing.
 use Rattle.store.specs.Sound.{OpenIsSound, CallKeepsSound, CheckIsExact}
 use Rattle.store.specs.Bound.{OneOutcome}
-use Rattle.store.specs.Demand1.{CallRefusalsChangeNothing, OpenRefusalsGiveZeros, CallsAreLimited}
+use Rattle.store.specs.Demand1.{CallRefusalsChangeNothing, CheckChangesNothing, OpenRefusalsGiveZeros, CallsAreLimited}
 use Rattle.store.specs.Demand2.{Demand2}
 use Rattle.store.specs.Demand3.{Demand3, Demand3Converse}
 
@@ -11,6 +11,7 @@ pub record Claims : Type 0 where
   pub call-keeps-sound : CallKeepsSound
   pub check-is-exact : CheckIsExact
   pub call-refusals-change-nothing : CallRefusalsChangeNothing
+  pub check-changes-nothing : CheckChangesNothing
   pub open-refusals-give-zeros : OpenRefusalsGiveZeros
   pub calls-are-limited : CallsAreLimited
   pub demand-2 : Demand2

@@ -35,7 +35,7 @@ storeOf c m = storeIn (c .r) (c .«queue_len») (c .«detector_len») (m .table0
 abbrev pub wordsOf : Control → Store → Lent
 wordsOf c s = wordsIn (3 * c .«queue_room») (2 * c .«detector_room») s
 
--- the record with the lengths of a store
+-- the record with other lengths
 abbrev pub withLens : Control → ℕ → ℕ → Control
 withLens c ql dl = record {
   r = c .r;
@@ -50,5 +50,6 @@ withLens c ql dl = record {
   «detector_len» = dl;
 }
 
+-- the record with the lengths of a store
 unfoldable pub recordOf : Control → Store → Control
 recordOf c s = withLens c (length (s .waiting)) (length (s .marked))

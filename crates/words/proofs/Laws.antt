@@ -17,20 +17,6 @@ three-sets ws at x y z =
     let e : at + 2 ≡ suc (suc at) = omega arith in
     rw (add-one, e)
 
-pub length-cleared : (from to : ℕ) (ws : List ℕ) → from ≤ to → to ≤ length ws → length (cleared from to ws) ≡ length ws
-unfolding cleared
-length-cleared from to ws h k =
-    let t : length (take from ws) ≡ from = length-take-le from ws (omega arith) in
-    simp (length-append, length-replicate, length-drop, t) (omega arith)
-
-pub length-closed : (at w end : ℕ) (ws : List ℕ) → at + w ≤ end → end ≤ length ws → length (closed at w end ws) ≡ length ws
-unfolding closed between
-length-closed at w end ws h k =
-    let s : List ℕ = drop (at + w) ws in
-    let t : length (take at ws) ≡ at = length-take-le at ws (omega arith) in
-    let m : length (take (end - (at + w)) s) ≡ end - (at + w) = length-take-le (end - (at + w)) s (rw length-drop (omega arith)) in
-    simp (length-append, length-replicate, length-drop, t, m) (omega arith)
-
 -- nothing cleared yet
 pub clear-none : (from : ℕ) (ws : List ℕ) → ws ≡ cleared from from ws
 unfolding cleared

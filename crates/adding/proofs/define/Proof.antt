@@ -10,7 +10,6 @@ is-key-requires c κs = search needs
 reply-requires : tie.Need-reply-requires
 reply-requires c κs = search needs
 
--- antt refused `returns` as it was built: the module's report says why
 returns : tie.Need-returns
 returns c =
     let a = c .before .before .before .before .before .before .before .args in
@@ -31,7 +30,6 @@ same-length-2 c = search needs
 same-length-3 : tie.Need-same-length-3
 same-length-3 c = search needs
 
--- antt refused `returns-2` as it was built: the module's report says why
 returns-2 : tie.Need-returns-2
 returns-2 c =
     let a = c .before .before .before .before .before .before .before .before .before .before .before .before .before .args in
@@ -49,7 +47,6 @@ same-length-5 c = search needs
 same-length-6 : tie.Need-same-length-6
 same-length-6 c = search needs
 
--- antt refused `returns-3` as it was built: the module's report says why
 returns-3 : tie.Need-returns-3
 returns-3 c =
     let a = c .before .before .before .before .before .before .before .before .before .before .before .before .before .before .before .args in
@@ -70,13 +67,11 @@ same-length-9 c = search needs
 same-length-10 : tie.Need-same-length-10
 same-length-10 c = search needs
 
--- antt refused `returns-4` as it was built: the module's report says why
 returns-4 : tie.Need-returns-4
 returns-4 c =
     let a = c .before .before .before .before .before .before .before .before .before .before .before .before .before .before .before .before .before .before .before .before .before .before .before .before .before .before .before .args in
     defines (a .f) (a .c) (a .x) (a .v) (a .t0 .now) (a .t1 .now) (a .queue .now) (a .detector .now) (c .before .before .before .before .before .before .before .before .before .before .before .before .before .before .before .before .before .before .before .before .before .before .is-key .ensures) (c .before .before .before .before .before .before .before .before .before .before .before .before .before .before .before .before .before .before .before .before .before .if1 .left) (c .before .before .before .before .before .before .before .before .before .before .before .before .before .before .before .before .before .search .ensures (a .detector .now)) (c .before .before .before .before .before .before .before .before .before .before .before .before .before .before .before .if2 .left) (c .before .before .before .before .before .before .before .before .before .before .before .before .before .if3 .left) (c .before .before .before .before .before .before .before .before .seat .ensures)
 
--- antt refused `define-spec` as it was built: the module's report says why
 pub define-spec : {M : Type 1} → statement M
 define-spec =
     tie.close

@@ -20,7 +20,6 @@ mul-if1 c = search needs
 mul-if1-2 : tie.Need-mul-if1-2
 mul-if1-2 c = search needs
 
--- antt refused `slice-read-if1` as it was built: the module's report says why
 slice-read-if1 : tie.Need-slice-read-if1
 slice-read-if1 c =
     let s = c .before .before .before .before .before .before .before in
@@ -31,7 +30,6 @@ slice-read-if1 c =
 mul-put-two : tie.Need-mul-put-two
 mul-put-two c = search needs
 
--- antt refused `put-two-requires` as it was built: the module's report says why
 put-two-requires : tie.Need-put-two-requires
 put-two-requires c κs =
     let s = c .before .before .before .before .before .before .before .before .before in
@@ -54,7 +52,6 @@ same-length-2 c = search needs
 same-length-3 : tie.Need-same-length-3
 same-length-3 c = search needs
 
--- antt refused `returns` as it was built: the module's report says why
 returns : tie.Need-returns
 returns c =
     let s = c .before .before .before .before .before .before .before .before .before .before .before .before .before .before .before .before .before .before .before .before in
@@ -80,7 +77,6 @@ same-length-7 c = search needs
 returns-2 : tie.Need-returns-2
 returns-2 c = search needs
 
--- antt refused `seat-spec` as it was built: the module's report says why
 pub seat-spec : {M : Type 1} → statement M
 seat-spec =
     tie.close

@@ -2,9 +2,6 @@
 use borrow.Author.Needs.{needs}
 use Rattle.bridge.proofs.kt_define.Statement.{statement}
 use Rattle.bridge.proofs.kt_define.Tie as tie
-use Rattle.bridge.proofs.kt_define.Reads as reads
-use Rattle.bridge.proofs.kt_define.Lts as lts
-use Rattle.store.proofs.Control.define.Reads as define-reads
 
 define-requires : tie.Need-define-requires
 define-requires c κs = search needs

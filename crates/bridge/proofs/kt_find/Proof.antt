@@ -2,9 +2,6 @@
 use borrow.Author.Needs.{needs}
 use Rattle.bridge.proofs.kt_find.Statement.{statement}
 use Rattle.bridge.proofs.kt_find.Tie as tie
-use Rattle.bridge.proofs.kt_find.Reads as reads
-use Rattle.bridge.proofs.kt_find.Lts as lts
-use Rattle.store.proofs.Control.find.Reads as find-reads
 
 find-requires : tie.Need-find-requires
 find-requires c κs = search needs

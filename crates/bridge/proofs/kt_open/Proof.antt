@@ -2,9 +2,6 @@
 use borrow.Author.Needs.{needs}
 use Rattle.bridge.proofs.kt_open.Statement.{statement}
 use Rattle.bridge.proofs.kt_open.Tie as tie
-use Rattle.bridge.proofs.kt_open.Reads as reads
-use Rattle.bridge.proofs.kt_open.Lts as lts
-use Rattle.store.proofs.Control.open.Reads as open-reads
 
 open-requires : tie.Need-open-requires
 open-requires c κs = search needs

@@ -12,7 +12,6 @@ is-key-requires c κs = search needs
 reply-requires : tie.Need-reply-requires
 reply-requires c κs = search needs
 
--- antt refused `returns` as it was built: the module's report says why
 returns : tie.Need-returns
 returns c d =
     let a = c .before .before .before .before .before .before .args in
@@ -24,11 +23,9 @@ search-requires c κs = search needs
 reply-requires-2 : tie.Need-reply-requires-2
 reply-requires-2 c κs = search needs
 
--- antt refused `returns-2` as it was built: the module's report says why
 returns-2 : tie.Need-returns-2
 returns-2 c d = c .reply2 .ensures ∙ found-at (c .before .before .before .is-key .ensures) (c .before .before .if1 .left) (c .before .search .ensures d)
 
--- antt refused `find-spec` as it was built: the module's report says why
 pub find-spec : {M : Type 1} → statement M
 find-spec =
     tie.close

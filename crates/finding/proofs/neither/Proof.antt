@@ -18,17 +18,14 @@ wrapping-sub-u32-requires-2 c κs = search needs
 cast-off1 : tie.Need-cast-off1
 cast-off1 c = search needs
 
--- antt refused `mul-result` as it was built: the module's report says why
 mul-result : tie.Need-mul-result
 mul-result c = omega (arith, product _ _ (c .before .wrapping-sub-u32 .ok) (c .wrapping-sub-u322 .ok))
 
--- antt refused `returns` as it was built: the module's report says why
 returns : tie.Need-returns
 returns c =
     let a = c .before .before .args in
     product-tells (a .key0) (a .key1) (a .x) _ _ (c .before .before .fits .x .fits) (c .before .wrapping-sub-u32 .ok) (c .wrapping-sub-u322 .ok) (c .before .wrapping-sub-u32 .ensures) (c .wrapping-sub-u322 .ensures)
 
--- antt refused `neither-spec` as it was built: the module's report says why
 pub neither-spec : {M : Type 1} → statement M
 neither-spec =
     tie.close

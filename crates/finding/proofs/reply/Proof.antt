@@ -9,6 +9,5 @@ of-requires c κs = search needs
 returns : tie.Need-returns
 returns c = c .of .ensures
 
--- antt refused `reply-spec` as it was built: the module's report says why
 pub reply-spec : {M : Type 1} → statement M
 reply-spec = tie.close (tie.spec of-requires returns)

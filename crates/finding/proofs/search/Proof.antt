@@ -26,7 +26,6 @@ mul-key0 c = search needs
 mul-key0-2 : tie.Need-mul-key0-2
 mul-key0-2 c = search needs
 
--- antt refused `shared-slice-read-key0` as it was built: the module's report says why
 shared-slice-read-key0 : tie.Need-shared-slice-read-key0
 shared-slice-read-key0 c =
     let s = c .before .before .before .before .before .before in
@@ -41,7 +40,6 @@ add-value0 c = search needs
 mul-value0-2 : tie.Need-mul-value0-2
 mul-value0-2 c = search needs
 
--- antt refused `shared-slice-read-value0` as it was built: the module's report says why
 shared-slice-read-value0 : tie.Need-shared-slice-read-value0
 shared-slice-read-value0 c =
     let s = c .before .before .before .before .before .before .before in
@@ -53,7 +51,6 @@ mul-key1 c = search needs
 mul-key1-2 : tie.Need-mul-key1-2
 mul-key1-2 c = search needs
 
--- antt refused `shared-slice-read-key1` as it was built: the module's report says why
 shared-slice-read-key1 : tie.Need-shared-slice-read-key1
 shared-slice-read-key1 c =
     let s = c .before .before .before .before .before .before .before .before in
@@ -68,7 +65,6 @@ add-value1 c = search needs
 mul-value1-2 : tie.Need-mul-value1-2
 mul-value1-2 c = search needs
 
--- antt refused `shared-slice-read-value1` as it was built: the module's report says why
 shared-slice-read-value1 : tie.Need-shared-slice-read-value1
 shared-slice-read-value1 c =
     let s = c .before .before .before .before .before .before .before .before .before in
@@ -80,7 +76,6 @@ neither-requires c κs = search needs
 search-queue-requires : tie.Need-search-queue-requires
 search-queue-requires c κs = search needs
 
--- antt refused `returns` as it was built: the module's report says why
 returns : tie.Need-returns
 returns c d =
     let s = c .before .before .before .before .before .before .before .before .before .before .before .before in
@@ -88,7 +83,6 @@ returns c d =
     sees-queue (a .f) (a .c) (a .x) (lent (a .t0 .now) (a .t1 .now) (a .queue .now) d) (s .pre .0) (c .before .before .before .before .before .before .before .before .in-table0 .ensures) (c .before .before .before .before .before .before .before .in-table1 .ensures)
     (sym (c .before .before .neither .ensures) ∙ c .before .if1 .taken) (c .search-queue .ensures)
 
--- antt refused `returns-2` as it was built: the module's report says why
 returns-2 : tie.Need-returns-2
 returns-2 c d =
     let s = c .before .before .before .before .before .before .before .before .before .before .before .before in
@@ -96,7 +90,6 @@ returns-2 c d =
     sees-first (a .f) (a .c) (a .x) (lent (a .t0 .now) (a .t1 .now) (a .queue .now) d) (s .pre .0) (c .before .before .before .before .before .before .before .before .in-table0 .ensures) (c .before .before .before .before .before .before .before .in-table1 .ensures)
     (c .if2 .taken)
 
--- antt refused `returns-3` as it was built: the module's report says why
 returns-3 : tie.Need-returns-3
 returns-3 c d =
     let s = c .before .before .before .before .before .before .before .before .before .before .before .before in
@@ -104,7 +97,6 @@ returns-3 c d =
     sees-second (a .f) (a .c) (a .x) (lent (a .t0 .now) (a .t1 .now) (a .queue .now) d) (s .pre .0) (c .before .before .before .before .before .before .before .before .in-table0 .ensures) (c .before .before .before .before .before .before .before .in-table1 .ensures)
     (sym (c .before .before .neither .ensures) ∙ c .before .if1 .left) (c .if2 .left)
 
--- antt refused `search-spec` as it was built: the module's report says why
 pub search-spec : {M : Type 1} → statement M
 search-spec =
     tie.close

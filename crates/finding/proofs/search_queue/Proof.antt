@@ -22,19 +22,16 @@ mul-t11 c = search needs
 shared-slice-read-t13 : tie.Need-shared-slice-read-t13
 shared-slice-read-t13 c = search needs
 
--- antt refused `returns` as it was built: the module's report says why
 returns : tie.Need-returns
 returns c =
     let a = c .before .before .before .before .before .args in
     sees-waiting (a .c) (a .x) (a .queue .now) (c .before .before .place-of .ensures) (c .before .if1 .taken)
 
--- antt refused `returns-2` as it was built: the module's report says why
 returns-2 : tie.Need-returns-2
 returns-2 c =
     let a = c .before .before .before .before .args in
     sees-none (a .c) (a .x) (a .queue .now) (c .before .place-of .ensures) (c .if1 .left)
 
--- antt refused `search-queue-spec` as it was built: the module's report says why
 pub search-queue-spec : {M : Type 1} → statement M
 search-queue-spec =
     tie.close

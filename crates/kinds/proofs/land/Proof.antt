@@ -1,3 +1,4 @@
+-- `kinds::land` meets its contract: the front gone from the queue, and all pairs gone from the detector. Assumes nothing.
 use mathlib.Core.Path.{refl, _∙_}
 use Rattle.layout.specs.Forms.{entryForm, pairForm}
 use Rattle.layout.proofs.Forms.{entry-lawful, pair-lawful}
@@ -5,53 +6,37 @@ use Rattle.layout.proofs.Ready.{front-gone, all-gone}
 use borrow.Author.Needs.{needs}
 use Rattle.kinds.proofs.land.Statement.{statement}
 use Rattle.kinds.proofs.land.Tie as tie
-use Rattle.kinds.proofs.land.Reads as reads
-use Rattle.kinds.proofs.land.Lts as lts
-use Rattle.words.proofs.clear.Reads as clear-reads
-use Rattle.words.proofs.close_gap.Reads as close-gap-reads
-use Rattle.words.proofs.put_two.Reads as put-two-reads
 
--- src/lib.rt:37:23
 mul-put-two : tie.Need-mul-put-two
 mul-put-two c = search needs
 
--- src/lib.rt:37:5
 put-two-requires : tie.Need-put-two-requires
 put-two-requires c κs = search needs
 
--- src/lib.rt:38:35
 mul-close-gap : tie.Need-mul-close-gap
 mul-close-gap c = search needs
 
--- src/lib.rt:38:5
 close-gap-requires : tie.Need-close-gap-requires
 close-gap-requires c κs = search needs
 
--- src/lib.rt:39:31
 mul-clear : tie.Need-mul-clear
 mul-clear c = search needs
 
--- src/lib.rt:39:5
 clear-requires : tie.Need-clear-requires
 clear-requires c κs = search needs
 
--- src/lib.rt:40:32
 sub-t18 : tie.Need-sub-t18
 sub-t18 c = search needs
 
--- src/lib.rt:31:1
 same-length : tie.Need-same-length
 same-length c = search needs
 
--- src/lib.rt:31:1
 same-length-2 : tie.Need-same-length-2
 same-length-2 c = search needs
 
--- src/lib.rt:31:1
 same-length-3 : tie.Need-same-length-3
 same-length-3 c = search needs
 
--- src/lib.rt:31:1
 returns : tie.Need-returns
 returns c =
     let s = c .before .before .before .before .before .before .before .before .before .before .before .before .before .before .before in

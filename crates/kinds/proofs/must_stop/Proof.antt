@@ -1,22 +1,17 @@
+-- `kinds::must_stop` meets its contract: marked, or the detector is full. Assumes nothing.
 use mathlib.Core.Path.{sym, _∙_, ap}
-use mathlib.Core.Bool.{Bool, _||_}
+use mathlib.Core.Bool.{_||_}
 use lib.Dec.{leb}
 use borrow.Author.Needs.{needs}
 use Rattle.kinds.proofs.must_stop.Statement.{statement}
 use Rattle.kinds.proofs.must_stop.Tie as tie
-use Rattle.kinds.proofs.must_stop.Reads as reads
-use Rattle.kinds.proofs.must_stop.Lts as lts
-use Rattle.layout.proofs.is_marked.Reads as is-marked-reads
 
--- src/lib.rt:78:8
 is-marked-requires : tie.Need-is-marked-requires
 is-marked-requires c κs = search needs
 
--- src/lib.rt:79:9
 returns : tie.Need-returns
 returns c = ap (λ m. m || leb (c .before .before .before .args .room) (c .before .before .before .args .n)) (sym (c .if1 .taken) ∙ c .before .is-marked .ensures)
 
--- src/lib.rt:74:1
 returns-2 : tie.Need-returns-2
 returns-2 c = ap (λ m. m || leb (c .before .before .before .args .room) (c .before .before .before .args .n)) (sym (c .if1 .left) ∙ c .before .is-marked .ensures)
 

@@ -1,4 +1,5 @@
-use mathlib.Core.Path.{refl, _∙_, ap}
+-- `kinds::swap` meets its contract: another front over the first, and one pair more. Assumes nothing.
+use mathlib.Core.Path.{refl, _∙_}
 use native.Mathlib.Omega.{arith}
 use Rattle.layout.specs.Forms.{entryForm, pairForm}
 use Rattle.layout.proofs.Forms.{entry-lawful, pair-lawful}
@@ -7,80 +8,58 @@ use Rattle.kinds.specs.Shape.{entry, pair}
 use borrow.Author.Needs.{needs}
 use Rattle.kinds.proofs.swap.Statement.{statement}
 use Rattle.kinds.proofs.swap.Tie as tie
-use Rattle.kinds.proofs.swap.Reads as reads
-use Rattle.kinds.proofs.swap.Lts as lts
-use Rattle.words.proofs.put_three.Reads as put-three-reads
-use Rattle.words.proofs.put_two.Reads as put-two-reads
 
--- src/lib.rt:65:15
 mul-k : tie.Need-mul-k
 mul-k c = search needs
 
--- src/lib.rt:65:13
 mul-k-2 : tie.Need-mul-k-2
 mul-k-2 c = search needs
 
--- src/lib.rt:65:13
 slice-read-k : tie.Need-slice-read-k
 slice-read-k c = search needs
 
--- src/lib.rt:66:15
 mul-u : tie.Need-mul-u
 mul-u c = search needs
 
--- src/lib.rt:66:15
 add-u : tie.Need-add-u
 add-u c = search needs
 
--- src/lib.rt:66:13
 mul-u-2 : tie.Need-mul-u-2
 mul-u-2 c = search needs
 
--- src/lib.rt:66:13
 slice-read-u : tie.Need-slice-read-u
 slice-read-u c = search needs
 
--- src/lib.rt:67:23
 mul-put-two : tie.Need-mul-put-two
 mul-put-two c = search needs
 
--- src/lib.rt:67:5
 put-two-requires : tie.Need-put-two-requires
 put-two-requires c κs = search needs
 
--- src/lib.rt:68:38
 sub-put-three : tie.Need-sub-put-three
 sub-put-three c = search needs
 
--- src/lib.rt:68:5
 put-three-requires : tie.Need-put-three-requires
 put-three-requires c κs = search needs
 
--- src/lib.rt:69:30
 mul-put-two-2 : tie.Need-mul-put-two-2
 mul-put-two-2 c = search needs
 
--- src/lib.rt:69:5
 put-two-requires-2 : tie.Need-put-two-requires-2
 put-two-requires-2 c κs = search needs
 
--- src/lib.rt:70:50
 add-t15 : tie.Need-add-t15
 add-t15 c = search needs
 
--- src/lib.rt:57:1
 same-length : tie.Need-same-length
 same-length c = search needs
 
--- src/lib.rt:57:1
 same-length-2 : tie.Need-same-length-2
 same-length-2 c = search needs
 
--- src/lib.rt:57:1
 same-length-3 : tie.Need-same-length-3
 same-length-3 c = search needs
 
--- src/lib.rt:57:1
 returns : tie.Need-returns
 returns c =
     let s = c .before .before .before .before .before .before .before .before .before .before .before .before .before .before .before .before .before in

@@ -1,6 +1,5 @@
 -- `layout::tidy` meets its contract: what is cleared lies behind the entries and pairs. Assumes nothing.
 use mathlib.Core.Path.{refl, _∙_}
-use native.Mathlib.Omega.{arith}
 use lib.ListN.{length}
 use Rattle.layout.specs.Forms.{entryForm, pairForm}
 use Rattle.layout.proofs.Forms.{entry-lawful, pair-lawful}
@@ -8,9 +7,6 @@ use Rattle.layout.proofs.Packed.{packed-clear}
 use borrow.Author.Needs.{needs}
 use Rattle.layout.proofs.tidy.Statement.{statement}
 use Rattle.layout.proofs.tidy.Tie as tie
-use Rattle.layout.proofs.tidy.Reads as reads
-use Rattle.layout.proofs.tidy.Lts as lts
-use Rattle.words.proofs.clear.Reads as clear-reads
 
 mul-clear : tie.Need-mul-clear
 mul-clear c = search needs

@@ -7,7 +7,6 @@ use borrow.Author.Needs.{needs}
 use Rattle.settling.proofs.run_out.Statement.{statement}
 use Rattle.settling.proofs.run_out.Tie as tie
 
--- antt refused `run-steps-requires` as it was built: the module's report says why
 run-steps-requires : tie.Need-run-steps-requires
 run-steps-requires c κs =
     let s = c .before .before .before .before .before .before .before .before in
@@ -30,7 +29,6 @@ same-length-3 c = search needs
 same-length-4 : tie.Need-same-length-4
 same-length-4 c = search needs
 
--- antt refused `returns` as it was built: the module's report says why
 returns : tie.Need-returns
 returns c =
     let s = c .before .before .before .before .before .before .before .before .before .before .before .before .before .before .before .before .before .before in
@@ -40,7 +38,6 @@ returns c =
     let ran = c .before .before .before .before .before .before .before .before .before .run-steps in
     ran-out (a .f) (a .c) m fit (a .budget) _ _ _ _ _ (ran .ensures _ (runs-with (a .f) (a .c) m fit (a .budget))) (ran .kept .1 .1 .1 .1 .1 .0) (ran .kept .1 .1 .1 .1 .1 .1 .0) (c .of .ensures)
 
--- antt refused `run-out-spec` as it was built: the module's report says why
 pub run-out-spec : {M : Type 1} → statement M
 run-out-spec =
     tie.close

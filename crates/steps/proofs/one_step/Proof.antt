@@ -1,36 +1,27 @@
+-- `steps::one_step` meets its contract: the step in the table that the front entry means is the step of the store. Assumes nothing.
 use mathlib.Core.Path.{sym, subst}
 use Prim.Native.Nat.{ℕ, _<_}
 use native.Mathlib.Omega.{arith}
-use lib.ListN.{length, getD}
+use lib.ListN.{length}
 use Rattle.numbers.proofs.Home.{home0-in-table, home1-in-table}
 use Rattle.kinds.specs.Shape.{cellsIn}
 use Rattle.steps.proofs.InStore.{first-table, second-table}
 use borrow.Author.Needs.{needs}
 use Rattle.steps.proofs.one_step.Statement.{statement}
 use Rattle.steps.proofs.one_step.Tie as tie
-use Rattle.steps.proofs.one_step.Reads as reads
-use Rattle.steps.proofs.one_step.Lts as lts
-use Rattle.numbers.proofs.Functions.in_table0.Reads as in-table0-reads
-use Rattle.numbers.proofs.Functions.in_table1.Reads as in-table1-reads
-use Rattle.steps.proofs.step_in.Reads as step-in-reads
 
--- src/lib.rt:111:13
 slice-read-y : tie.Need-slice-read-y
 slice-read-y c = search needs
 
--- src/lib.rt:112:16
 slice-read-side : tie.Need-slice-read-side
 slice-read-side c = search needs
 
--- src/lib.rt:115:17
 in-table0-requires : tie.Need-in-table0-requires
 in-table0-requires c κs = search needs
 
--- src/lib.rt:115:17
 cast-i : tie.Need-cast-i
 cast-i c = search needs
 
--- src/lib.rt:116:9
 step-in-requires : tie.Need-step-in-requires
 step-in-requires c κs =
     let s = c .before .before .before .before .before .before .before .before .before .before .before in
@@ -38,19 +29,15 @@ step-in-requires c κs =
     let in-table : c .before .before .before .in-table0 .result < f .r = subst (λ (k : ℕ). k < f .r) (sym (c .before .before .before .in-table0 .ensures)) (home0-in-table f _ (s .pre .1 .0 .some)) in
     (omega arith, (s .pre .0, ((s .pre .1 .0 .first, in-table, s .pre .1 .1 .0), s .pre .1 .1 .1)))
 
--- src/lib.rt:116:9
 same-length : tie.Need-same-length
 same-length c = search needs
 
--- src/lib.rt:116:9
 same-length-2 : tie.Need-same-length-2
 same-length-2 c = search needs
 
--- src/lib.rt:116:9
 same-length-3 : tie.Need-same-length-3
 same-length-3 c = search needs
 
--- src/lib.rt:116:9
 returns : tie.Need-returns
 returns c n w =
     let s = c .before .before .before .before .before .before .before .before .before .before .before .before .before .before .before .before .before .before in
@@ -58,15 +45,12 @@ returns c n w =
     first-table n (a .f) (a .room) (a .ql) (a .dl) (a .t0 .now) (a .t1 .now) (a .queue .now) (a .detector .now) w (s .pre .0) (length (a .queue .now)) (length (a .detector .now)) _ _ _ _
     (c .before .before .before .before .before .before .before .before .before .before .before .if1 .taken) (rw (c .before .before .before .before .before .before .before .before .before .before .in-table0 .ensures) at (c .before .before .before .before .before .before .step-in .ensures (cellsIn (a .f .r) (a .t1 .now))))
 
--- src/lib.rt:118:13
 in-table1-requires : tie.Need-in-table1-requires
 in-table1-requires c κs = search needs
 
--- src/lib.rt:118:13
 cast-i-2 : tie.Need-cast-i-2
 cast-i-2 c = search needs
 
--- src/lib.rt:119:5
 step-in-requires-2 : tie.Need-step-in-requires-2
 step-in-requires-2 c κs =
     let s = c .before .before .before .before .before .before .before .before .before .before .before in
@@ -74,19 +58,15 @@ step-in-requires-2 c κs =
     let in-table : c .before .before .before .in-table1 .result < f .r = subst (λ (k : ℕ). k < f .r) (sym (c .before .before .before .in-table1 .ensures)) (home1-in-table f _ (s .pre .1 .0 .some)) in
     (omega arith, (s .pre .0, ((s .pre .1 .0 .second, in-table, s .pre .1 .1 .0), s .pre .1 .1 .1)))
 
--- src/lib.rt:104:1
 same-length-4 : tie.Need-same-length-4
 same-length-4 c = search needs
 
--- src/lib.rt:104:1
 same-length-5 : tie.Need-same-length-5
 same-length-5 c = search needs
 
--- src/lib.rt:104:1
 same-length-6 : tie.Need-same-length-6
 same-length-6 c = search needs
 
--- src/lib.rt:104:1
 returns-2 : tie.Need-returns-2
 returns-2 c n w =
     let s = c .before .before .before .before .before .before .before .before .before .before .before .before .before .before .before .before .before .before in

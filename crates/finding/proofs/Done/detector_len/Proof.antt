@@ -8,11 +8,9 @@ use Rattle.finding.proofs.Done.detector_len.Tie as tie
 cast-result : tie.Need-cast-result
 cast-result c = search needs
 
--- antt refused `returns` as it was built: the module's report says why
 returns : tie.Need-returns
 unfolding toldBy
 returns c = refl
 
--- antt refused `detector-len-spec` as it was built: the module's report says why
 pub detector-len-spec : {M : Type 1} → statement M
 detector-len-spec = tie.close (tie.spec cast-result returns)

@@ -13,7 +13,6 @@ mul-t9 c = search needs
 add-t10 : tie.Need-add-t10
 add-t10 c = search needs
 
--- antt refused `returns` as it was built: the module's report says why
 returns : tie.Need-returns
 unfolding toldBy
 returns c =
@@ -22,6 +21,5 @@ returns c =
     let upper : (a .«queue-len» + a .«detector-len» * 4294967296) / 4294967296 ≡ a .«detector-len» = omega arith in
     λ i. tells (lower i) (upper i) (a .number) (a .value) (a .steps) (a .moves)
 
--- antt refused `of-spec` as it was built: the module's report says why
 pub of-spec : {M : Type 1} → statement M
 of-spec = tie.close (tie.spec mul-t9 add-t10 returns)

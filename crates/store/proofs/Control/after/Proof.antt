@@ -11,7 +11,6 @@ queue-len-requires c κs = search needs
 detector-len-requires : tie.Need-detector-len-requires
 detector-len-requires c κs = search needs
 
--- antt refused `returns` as it was built: the module's report says why
 returns : tie.Need-returns
 unfolding toldBy
 returns c =
@@ -20,6 +19,5 @@ returns c =
     let detector = c .detector-len .ensures in
     λ i. record { control = withLens (a .self) (queue i) (detector i); number = a .d .number; value = a .d .value; steps = a .d .steps; moves = a .d .moves }
 
--- antt refused `after-spec` as it was built: the module's report says why
 pub after-spec : {M : Type 1} → statement M
 after-spec = tie.close (tie.spec queue-len-requires detector-len-requires returns)
