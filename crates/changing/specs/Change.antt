@@ -11,7 +11,7 @@ use Rattle.rules.specs.Calls.{Answer as RulesAnswer, answer}
 use Rattle.rules.specs.Keeps.{isAccepted}
 use Rattle.layout.specs.Memory.{Lent, lent}
 use Rattle.numbers.specs.declared.Rooms.{Rooms}
-use Rattle.finding.specs.Inner.{numbersOf, storeOf, answered, Outcome, keeps, Told}
+use Rattle.finding.specs.Inner.{numbersOf, storeOf, answered, Outcome, outcome, keeps, Told}
 
 -- the words with another value at a place: places past the lengths stay as they are
 abbrev pub putValue : Place → ℕ → Lent → Lent
@@ -22,7 +22,7 @@ putValue nowhere v m = m
 
 -- what a change leaves, a being the rules' answer
 unfoldable pub changing : Functions → Rooms → ℕ → ℕ → Lent → RulesAnswer → Outcome
-changing f c x v m a = cond (isAccepted a) (keeps c (putValue (search (numbersOf f c) x (storeOf f c m)) v m) a) (keeps c m a)
+changing f c x v m a = cond (isAccepted a) (outcome (putValue (search (numbersOf f c) x (storeOf f c m)) v m) (answered c a)) (keeps c m a)
 
 -- another value in entry i of width w, the old one answered
 pub record Exchanged (c : Rooms) (w i v : ℕ) (ws ws′ : List ℕ) (a : Told) : Type 0 where

@@ -8,7 +8,7 @@ use Rattle.rules.specs.Store.{table-0, table-1, Tables, Numbers}
 use Rattle.rules.specs.Check.{cellsOk, queueOk, marksOk, isSound}
 use Rattle.kinds.specs.Shape.{cellsIn, entriesIn, pairsIn}
 use Rattle.entries.specs.Zeros.{allZero}
-use Rattle.checks.specs.Zeros.{soundIn}
+use Rattle.checks.specs.Sound.{isSoundIn}
 
 module _ (n : Numbers) (r ql dl : ℕ) (t0 t1 q d : List ℕ) where
   abbrev both : Tables
@@ -30,28 +30,28 @@ module _ (n : Numbers) (r ql dl : ℕ) (t0 t1 q d : List ℕ) where
   zeros = allZero (drop (3 * ql) q)
 
   abbrev sound : Bool
-  sound = soundIn n r ql dl t0 t1 q d
+  sound = isSoundIn n r ql dl t0 t1 q d
 
   pub bad-first : first ≡ false → false ≡ sound
-  unfolding soundIn isSound
+  unfolding isSoundIn isSound
   bad-first a = simp a
 
   pub bad-second : first ≡ true → second ≡ false → false ≡ sound
-  unfolding soundIn isSound
+  unfolding isSoundIn isSound
   bad-second a b = simp (a, b)
 
   pub bad-waiting : first ≡ true → second ≡ true → waiting ≡ false → false ≡ sound
-  unfolding soundIn isSound
+  unfolding isSoundIn isSound
   bad-waiting a b c = simp (a, b, c)
 
   pub bad-marked : first ≡ true → second ≡ true → waiting ≡ true → marked ≡ false → false ≡ sound
-  unfolding soundIn isSound
+  unfolding isSoundIn isSound
   bad-marked a b c e = simp (a, b, c, e)
 
   pub bad-zeros : first ≡ true → second ≡ true → waiting ≡ true → marked ≡ true → zeros ≡ false → false ≡ sound
-  unfolding soundIn isSound
+  unfolding isSoundIn isSound
   bad-zeros a b c e g = simp (a, b, c, e, g)
 
   pub last : first ≡ true → second ≡ true → waiting ≡ true → marked ≡ true → zeros ≡ true → (w : Bool) → w ≡ allZero (drop (2 * dl) d) → w ≡ sound
-  unfolding soundIn isSound
+  unfolding isSoundIn isSound
   last a b c e g w h = simp (a, b, c, e, g) h

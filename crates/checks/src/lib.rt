@@ -4,7 +4,7 @@ ghost use Prim.Native.Nat.{_*_, _≤_};
 ghost use lib.ListN.{length};
 ghost use Rattle.rules.specs.Store.{Numbers};
 ghost use Rattle.steps.specs.Shape.{homesOf, TablesReady};
-ghost use Rattle.checks.specs.Zeros.{soundIn};
+ghost use Rattle.checks.specs.Sound.{isSoundIn};
 use numbers::Functions;
 
 // Whether the words hold a store with sound contents, and zeros past the lengths.
@@ -19,7 +19,7 @@ pub fn is_sound(
 ) -> bool
     requires { ⌜ TablesReady (f .r) (now t0) (now t1) ⌝ }
     requires { ⌜ (3 * ql ≤ length (now queue)) × (length (now queue) ≤ 192) × (2 * dl ≤ length (now detector)) × (length (now detector) ≤ 256) ⌝ }
-    ensures { λ k. ⌜ ((n : Numbers) → n .home ≡ homesOf f → k ≡ soundIn n (f .r) ql dl (now (t0 .entry)) (now (t1 .entry)) (now (queue .entry)) (now (detector .entry))) ⌝ }
+    ensures { λ k. ⌜ ((n : Numbers) → n .home ≡ homesOf f → k ≡ isSoundIn n (f .r) ql dl (now (t0 .entry)) (now (t1 .entry)) (now (queue .entry)) (now (detector .entry))) ⌝ }
 {
     let nq = ql as usize;
     let nd = dl as usize;

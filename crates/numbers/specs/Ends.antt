@@ -3,7 +3,7 @@ use Prim.Native.Nat.{ℕ}
 use mathlib.Core.Path.{_≡_}
 use mathlib.Core.Bool.{Bool, true, not, _&&_}
 use mathlib.Core.List.{List, [], _∷_}
-use Rattle.numbers.specs.Ranges.{cellsInRange, queueRoomInRange, detectorRoomInRange, stepLimitInRange, goodKey, valueInRange, multiplierInRange, addendInRange}
+use Rattle.numbers.specs.Ranges.{cellsInRange, queueRoomInRange, detectorRoomInRange, stepLimitInRange, goodKey, multiplierInRange, addendInRange}
 
 -- a range with numbers that are in it, and numbers that are not
 pub record Range : Type 0 where
@@ -25,7 +25,6 @@ ranges =
     ∷ ends detectorRoomInRange (2 ∷ 128 ∷ []) (0 ∷ 1 ∷ 129 ∷ [])
     ∷ ends stepLimitInRange (1 ∷ 64 ∷ []) (0 ∷ 65 ∷ [])
     ∷ ends goodKey (1 ∷ 2147483647 ∷ []) (0 ∷ 2147483648 ∷ 4294967295 ∷ [])
-    ∷ ends valueInRange (0 ∷ 4294967295 ∷ []) (4294967296 ∷ [])
     ∷ ends multiplierInRange (1 ∷ 2147483646 ∷ []) (0 ∷ 2147483647 ∷ [])
     ∷ ends addendInRange (0 ∷ 2147483646 ∷ []) (2147483647 ∷ [])
     ∷ []

@@ -27,10 +27,6 @@ stepLimitInRange L = within 1 64 L
 unfoldable pub goodKey : ℕ → Bool
 goodKey key = within 1 2147483647 key
 
--- "value: any 32-bit unsigned number, 0 among them"
-unfoldable pub valueInRange : ℕ → Bool
-valueInRange value = within 0 4294967295 value
-
 -- "Table t has a function with a_t from 1 to p-1"
 unfoldable pub multiplierInRange : ℕ → Bool
 multiplierInRange a = within 1 2147483646 a

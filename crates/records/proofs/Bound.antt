@@ -22,8 +22,8 @@ commandOf f =
 
 -- the reader's answer that tells this
 abbrev pub tells : Answer → Reading
-tells (taken f next) = Good (commandOf f) next
-tells (refused number place) = Refused place
+tells (taken number f next) = Good (commandOf f) next
+tells (refused number value place) = Refused place
 tells ended = End
 
 tells-told : (r : Reading) → tells (told r) ≡ r

@@ -26,7 +26,7 @@ module _ (bytes : List ℕ) (place : ℕ) where
   unfolding readAt
   at-end h = rw (eq-eqb _ _ h)
 
-  pub cut-short : place ≢ length bytes → length bytes < place + 10 → refused 10 place ≡ readAt bytes place
+  pub cut-short : place ≢ length bytes → length bytes < place + 10 → refused 10 0 place ≡ readAt bytes place
   unfolding readAt
   cut-short h s = rw (ne-eqb _ _ h, lt-leb _ _ s)
 

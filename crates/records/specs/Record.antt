@@ -68,18 +68,18 @@ ifGood f = cond (isGood f) (some f) none
 
 -- what reading at a place answers
 pub data Answer : Type 0 where
-  taken : (f : Fields) (next : ℕ) → Answer
-  refused : (number place : ℕ) → Answer
+  taken : (number : ℕ) (f : Fields) (next : ℕ) → Answer
+  refused : (number value place : ℕ) → Answer
   ended : Answer
 
--- "either the command with the next place, or refusal 10 with the place where the record began"
+-- "either the command with the next place, or refusal 10 with the place where the record began"; "Accepted is 0", and 10 has value 0
 abbrev pub orRefuse10 : Option Fields → ℕ → Answer
-orRefuse10 (some f) place = taken f (place + 10)
-orRefuse10 none place = refused 10 place
+orRefuse10 (some f) place = taken 0 f (place + 10)
+orRefuse10 none place = refused 10 0 place
 
 unfoldable pub recordAt : List ℕ → ℕ → Answer
 recordAt bytes place = orRefuse10 (ifGood (fieldsAt bytes place)) place
 
 -- "or the end if the place is the input's length"; 10, "cut short"; "A place beyond the length is refused 10."
 unfoldable pub readAt : List ℕ → ℕ → Answer
-readAt bytes place = cond (eqb place (length bytes)) ended (cond (leb (place + 10) (length bytes)) (recordAt bytes place) (refused 10 place))
+readAt bytes place = cond (eqb place (length bytes)) ended (cond (leb (place + 10) (length bytes)) (recordAt bytes place) (refused 10 0 place))

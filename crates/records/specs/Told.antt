@@ -18,8 +18,8 @@ fieldsOf (Settle n) = fields letterS letterT n 0
 abbrev pub headingOf : Command → Heading
 headingOf command = record { first = fieldsOf command .first; second = fieldsOf command .second; key = fieldsOf command .key }
 
--- the command with the next place, refusal 10 with the place, or the end
+-- accepted, the command and the next place; refusal 10 with value 0, and the place; or the end
 abbrev pub told : Reading → Answer
-told (Good command next) = taken (fieldsOf command) next
-told (Refused place) = refused 10 place
+told (Good command next) = taken 0 (fieldsOf command) next
+told (Refused place) = refused 10 0 place
 told End = ended

@@ -17,19 +17,19 @@ use Rattle.rules.specs.Limits.{Limited, CallsAreLimited, Untouched, Refu
 use Rattle.rules.proofs.Runs.{run-steps, run-moves}
 
 -- what holds of every refusal, of every accepted call without steps and of every run within L holds of each call
-module _ (n : Numbers) (s : Store) (P : Outcome → Type 0) (no-call : (number value : ℕ) → number ≢ 0 → P (refused number value s)) (still : (value : ℕ) (u : Store) → P (accepted value u))
+module _ (n : Numbers) (s : Store) (P : Outcome → Type 0) (no-call : (number value : ℕ) → number ≢ 0 → (number ≢ 5 → value ≡ 0) → P (refused number value s)) (still : (value : ℕ) (u : Store) → P (accepted value u))
     (runs : (b : ℕ) → b ≤ n .L → (u : Store) → P (acceptedRun (run n b u))) where
   tested : (b : Bool) (number : ℕ) (after : Outcome) → number ≢ 0 → P after → P (refuseIf b number s after)
-  tested true number after nz p = no-call number 0 nz
+  tested true number after nz p = no-call number 0 nz (λ ne. refl)
   tested false number after nz p = p
 
   found : (o : Option ℕ) (after : Store) → P (orRefuse7 o s after)
-  found none after = no-call 7 0 (λ e. omega arith)
+  found none after = no-call 7 0 (λ e. omega arith) (λ ne. refl)
   found (some held) after = still held after
 
   new : (o : Option ℕ) (after : Outcome) → P after → P (refuse5 o s after)
   new none after p = p
-  new (some held) after p = no-call 5 held (λ e. omega arith)
+  new (some held) after p = no-call 5 held (λ e. omega arith) (λ ne. absurd (ne refl))
 
   by-outcome : (call : Call) → P (does n call s)
   unfolding find define change remove settle
@@ -40,15 +40,15 @@ module _ (n : Numbers) (s : Store) (P : Outcome → Type 0) (no-call : (number v
   by-outcome (Settle b) = go (ltb (n .L) b) refl
     where
       go : (over : Bool) → ltb (n .L) b ≡ over → P (refuseIf over 8 s (acceptedRun (run n b s)))
-      go true e = no-call 8 0 (λ e. omega arith)
+      go true e = no-call 8 0 (λ e. omega arith) (λ ne. refl)
       go false e = runs b (ltb-false _ _ e) s
 
 pub calls-are-limited : CallsAreLimited
 calls-are-limited n call s = by-outcome n s (Limited n)
-    (λ number value nz. record { steps-at-most-L = omega arith; moves-at-most-steps = omega arith })
+    (λ number value nz held. record { steps-at-most-L = omega arith; moves-at-most-steps = omega arith })
     (λ value u. record { steps-at-most-L = omega arith; moves-at-most-steps = omega arith })
     (λ b l u. record { steps-at-most-L = omega (arith, run-steps n b u); moves-at-most-steps = run-moves n b u }) call
 
 pub refusals-change-nothing : RefusalsChangeNothing
 refusals-change-nothing n call s = by-outcome n s (λ o. o .answer .number ≢ 0 → Untouched s o)
-    (λ number value nz r. record { store = refl; no-steps = refl; no-moves = refl }) (λ value u r. absurd (r refl)) (λ b l u r. absurd (r refl)) call
+    (λ number value nz held r. record { store = refl; value = held; no-steps = refl; no-moves = refl }) (λ value u r. absurd (r refl)) (λ b l u r. absurd (r refl)) call

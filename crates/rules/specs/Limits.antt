@@ -12,9 +12,10 @@ pub record Limited (n : Numbers) (o : Outcome) : Type 0 where
 abbrev pub CallsAreLimited : Type 0
 CallsAreLimited = (n : Numbers) (call : Call) (s : Store) → Limited n (does n call s)
 
--- "All refusals answer steps 0 and moves 0, and no word of any buffer differs"
+-- "All refusals answer steps 0 and moves 0, and no word of any buffer differs"; the table's column "Value": only 5 has one
 pub record Untouched (s : Store) (o : Outcome) : Type 0 where
   pub store : o .store ≡ s
+  pub value : o .answer .number ≢ 5 → o .answer .value ≡ 0
   pub no-steps : o .answer .steps ≡ 0
   pub no-moves : o .answer .moves ≡ 0
 

@@ -19,10 +19,13 @@ use Rattle.store.specs.declared.Answer.{Answer}
 use Rattle.store.specs.Memory.{functionsOf, roomsOf, numbersOf, storeOf, recordOf, wordsOf}
 use Rattle.store.specs.Refusals.{Outcome, outcome, answered, keeps, unlessFault}
 use Rattle.store.specs.Calls.{leaves, changing}
-use Rattle.store.specs.Inner.{carried, carries}
+use Rattle.store.specs.Inner.{carried}
 use Rattle.store.proofs.Faults.{faultIn, no-fault, goes-on, keeps-all}
 
--- what an inner call leaves, carried by the record
+-- what an inner call leaves and gives back, with the record
+abbrev carries : Control → InnerOutcome → Outcome
+carries c o = outcome (o .lent) (carried c (o .told))
+
 module _ (c : Control) (m : Lent) where
   carries-leaves : (o : RulesOutcome) → carries c (innerLeaves (roomsOf c) m o) ≡ leaves c m o
   unfolding leaves innerLeaves recordOf

@@ -1,6 +1,6 @@
 -- Check accepts exactly a sound store. Assumes nothing.
 use Prim.Native.Nat.{ℕ, zero, suc, _+_, _-_, _*_, _≤_}
-use mathlib.Core.Path.{_≡_, refl, sym, _∙_, ap}
+use mathlib.Core.Path.{_≡_, refl, sym, _∙_, ap, subst}
 use mathlib.Core.Bool.{Bool, true, false, cond, _&&_, and-eq-true-iff}
 use mathlib.Core.List.{List, [], _∷_}
 use native.Mathlib.Omega.{arith}
@@ -18,23 +18,24 @@ use Rattle.layout.proofs.Forms.{length-readMany}
 use Rattle.numbers.specs.declared.Functions.{Functions}
 use Rattle.steps.specs.Shape.{homesOf}
 use Rattle.entries.specs.Zeros.{allZero}
-use Rattle.checks.specs.Zeros.{soundIn}
+use Rattle.checks.specs.Sound.{isSoundIn}
 use Rattle.store.specs.declared.Control.{Control}
 use Rattle.store.specs.declared.Answer.{Answer}
 use Rattle.layout.specs.Memory.{Lent}
 use Rattle.store.specs.Memory.{functionsOf, numbersOf, storeOf}
-use Rattle.store.specs.Refusals.{inRange, filled, Outcome, outcome, answered, keeps, unlessFault}
+use Rattle.store.specs.Refusals.{inRange, sizedIn, lengthsWithin, Outcome, outcome, answered, keeps, unlessFault}
 use Rattle.store.specs.Calls.{checking, checked}
 use Rattle.faults.specs.Faults.{faultOf}
 use Rattle.faults.proofs.Accepted.{both, accepted-tests}
-use Rattle.store.specs.Sound.{sizedIn, SoundIn, CheckIsExact}
+use Rattle.store.specs.Sound.{SoundIn, CheckKeepsSound, CheckIsExact}
 use Rattle.store.proofs.Faults.{no-fault, faultIn, goes-on, keeps-all}
+use Rattle.store.proofs.Demand1.{check-changes-nothing}
 use Rattle.store.proofs.Written.{own-ranges}
 use Rattle.store.proofs.Simulation.{no-faults, contents}
 
 -- the test of the words
 abbrev pub passes : Control → Lent → Bool
-passes c m = soundIn (numbersOf c) (c .r) (c .«queue_len») (c .«detector_len») (m .table0) (m .table1) (m .queue) (m .detector)
+passes c m = isSoundIn (numbersOf c) (c .r) (c .«queue_len») (c .«detector_len») (m .table0) (m .table1) (m .queue) (m .detector)
 
 pub check-accepts : (c : Control) (m : Lent) → passes c m ≡ true → keeps c m (answer 0 0 0 0) ≡ checking c m
 unfolding checking
@@ -46,10 +47,10 @@ check-refuses c m h = simp h
 
 -- what the code's test of the whole store answers is that test
 pub tested-by : (c : Control) (m : Lent) {f : Functions} {b : Bool} → f ≡ functionsOf c
-    → ((n : Numbers) → n .home ≡ homesOf f → b ≡ soundIn n (f .r) (c .«queue_len») (c .«detector_len») (m .table0) (m .table1) (m .queue) (m .detector)) → b ≡ passes c m
+    → ((n : Numbers) → n .home ≡ homesOf f → b ≡ isSoundIn n (f .r) (c .«queue_len») (c .«detector_len») (m .table0) (m .table1) (m .queue) (m .detector)) → b ≡ passes c m
 tested-by c m functions is =
     is (numbersOf c) (λ i. homesOf (sym functions i))
-    ∙ (λ i. soundIn (numbersOf c) (functions i .r) (c .«queue_len») (c .«detector_len») (m .table0) (m .table1) (m .queue) (m .detector))
+    ∙ (λ i. isSoundIn (numbersOf c) (functions i .r) (c .«queue_len») (c .«detector_len») (m .table0) (m .table1) (m .queue) (m .detector))
 
 pub checks-by : (c : Control) (m : Lent) {k : ℕ} {b : Bool} {a : Answer} → k ≡ faultIn c m → k ≡ 0 → b ≡ passes c m → a ≡ answered c (answer (cond b 0 9) 0 0 0)
     → outcome m a ≡ unlessFault c m (checking c m)
@@ -83,9 +84,9 @@ module _ (c : Control) (m : Lent) where
   }
 
   passed : faultIn c m ≡ 0 → passes c m ≡ true → SoundIn c m
-  unfolding soundIn
+  unfolding isSoundIn
   passed e h =
-      let t = accepted-tests (inRange c) (sizedIn c m) (filled c) (unfold faultOf in e) in
+      let t = accepted-tests (inRange c) (sizedIn c m) (lengthsWithin c) (unfold faultOf in e) in
       let d = both (isSound (numbersOf c) (storeOf c m) && allZero (drop (3 * c .«queue_len») (m .queue))) (allZero (drop (2 * c .«detector_len») (m .detector))) h in
       let q = both (isSound (numbersOf c) (storeOf c m)) (allZero (drop (3 * c .«queue_len») (m .queue))) (d .0) in
       record {
@@ -97,7 +98,7 @@ module _ (c : Control) (m : Lent) where
       }
 
   passing : SoundIn c m → passes c m ≡ true
-  unfolding soundIn
+  unfolding isSoundIn
   passing s =
       let is : isSound (numbersOf c) (storeOf c m) ≡ true = rules-check-is-exact (numbersOf c) (storeOf c m) (fitting (no-faults c m s)) .1 (contents c m s) in
       let q : allZero (drop (3 * c .«queue_len») (m .queue)) ≡ true = all-zero _ (λ i. getD-drop (3 * c .«queue_len») (m .queue) i 0 ∙ s .queue-zeros _ (omega arith)) in
@@ -123,3 +124,8 @@ module _ (c : Control) (m : Lent) where
 
 pub check-is-exact : CheckIsExact
 check-is-exact c m = (accepted-is-sound c m, sound-is-accepted c m)
+
+pub check-keeps-sound : CheckKeepsSound
+check-keeps-sound c m sound =
+    let u = check-changes-nothing c m in
+    subst (λ (h : Control × Lent). SoundIn (h .0) (h .1)) (λ i. (sym (u .control) i, sym (u .words) i)) sound

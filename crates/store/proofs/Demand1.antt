@@ -14,18 +14,17 @@ use Rattle.rules.proofs.Limits.{refusals-change-nothing, calls-are-limited as r
 use Rattle.store.specs.declared.Control.{Control}
 use Rattle.layout.specs.Memory.{Lent}
 use Rattle.store.specs.Memory.{numbersOf, storeOf, wordsOf, recordOf, withLens}
-use Rattle.store.specs.Refusals.{inRange, sized, filled, Outcome, keeps, refuseIf, unlessFault}
+use Rattle.store.specs.Refusals.{inRange, sizedIn, lengthsWithin, Outcome, keeps, refuseIf, unlessFault}
 use Rattle.store.specs.Calls.{zeros, opened, found, leaves, defined, changing, changed, removed, settled, does, checking, checked}
 use Rattle.changing.specs.Change.{putValue}
-use Rattle.checks.specs.Zeros.{soundIn}
-use Rattle.store.specs.Sound.{sizedIn}
+use Rattle.checks.specs.Sound.{isSoundIn}
 use Rattle.store.specs.Demand1.{Untouched, CallRefusalsChangeNothing, CheckChangesNothing, OpenRefusalsGiveZeros, Limited, CallsAreLimited}
 use Rattle.store.specs.Demand2.{plain}
 
 -- what holds of refusals 1, 2 and 3 and of what comes after them holds of the call
 pub by-fault : (c : Control) (m : Lent) (after : Outcome) (P : Outcome → Type 0) → ((k : ℕ) → k ≢ 0 → P (keeps c m (answer k 0 0 0))) → P after → P (unlessFault c m after)
 unfolding unlessFault
-by-fault c m after P refused on = go (inRange c) (sized c (length (m .table0)) (length (m .table1)) (length (m .queue)) (length (m .detector))) (filled c)
+by-fault c m after P refused on = go (inRange c) (sizedIn c m) (lengthsWithin c)
   where
     go : (a b f : Bool) → P (refuseIf (not a) 1 c m (refuseIf (not b) 2 c m (refuseIf (not f) 3 c m after)))
     go true true true = on
@@ -71,7 +70,7 @@ answers (Remove x) c m = let o = remove (numbersOf c) x (storeOf c m) in accepts
 answers (Settle n) c m = let o = settle (numbersOf c) n (storeOf c m) in accepts c m (o .answer) (wordsOf c (o .store)) (recordOf c (o .store))
 
 kept-untouched : (c : Control) (m : Lent) (k : ℕ) → Untouched c m (keeps c m (answer k 0 0 0))
-kept-untouched c m k = record { words = refl; control = refl; no-steps = refl; no-moves = refl }
+kept-untouched c m k = record { words = refl; control = refl; value = λ ne. refl; no-steps = refl; no-moves = refl }
 
 pub call-refusals-change-nothing : CallRefusalsChangeNothing
 call-refusals-change-nothing call c m = subst (λ o. o .answer .number ≢ 0 → Untouched c m o) (does-is call c m)
@@ -86,6 +85,7 @@ call-refusals-change-nothing call c m = subst (λ o. o .answer .number ≢ 0 →
         record {
           words = a .kept refuses .0;
           control = a .kept refuses .1;
+          value = λ ne. ap (λ a. a .value) (a .answer) ∙ u .value (λ five. ne (e ∙ five));
           no-steps = ap (λ a. a .steps) (a .answer) ∙ u .no-steps;
           no-moves = ap (λ a. a .moves) (a .answer) ∙ u .no-moves;
         }
@@ -93,7 +93,7 @@ call-refusals-change-nothing call c m = subst (λ o. o .answer .number ≢ 0 →
 pub check-changes-nothing : CheckChangesNothing
 unfolding checked checking
 check-changes-nothing c m = by-fault c m (checking c m) (Untouched c m) (λ k nz. kept-untouched c m k)
-    (go (soundIn (numbersOf c) (c .r) (c .«queue_len») (c .«detector_len») (m .table0) (m .table1) (m .queue) (m .detector)))
+    (go (isSoundIn (numbersOf c) (c .r) (c .«queue_len») (c .«detector_len») (m .table0) (m .table1) (m .queue) (m .detector)))
   where
     go : (b : Bool) → Untouched c m (cond b (keeps c m (answer 0 0 0 0)) (keeps c m (answer 9 0 0 0)))
     go true = kept-untouched c m 0
@@ -118,7 +118,7 @@ unfolding opened
 by-open c m P one two accepted = go (inRange c) refl (sizedIn c m) refl
   where
     go : (a : Bool) → inRange c ≡ a → (b : Bool) → sizedIn c m ≡ b
-        → P (cond (not a) (keeps zeros m (answer 1 0 0 0)) (cond (not b) (keeps zeros m (answer 2 0 0 0)) (keeps (withLens c 0 0) (wordsOf c (fresh (numbersOf c))) (answer 0 0 0 0))))
+        → P (refuseIf (not a) 1 zeros m (refuseIf (not b) 2 zeros m (keeps (withLens c 0 0) (wordsOf c (fresh (numbersOf c))) (answer 0 0 0 0))))
     go false e b f = one
     go true e false f = two
     go true e true f = accepted e f

@@ -1,6 +1,6 @@
 -- Demand 2 of the calls, along the history. Assumes nothing.
 use Prim.Native.Nat.{ℕ}
-use mathlib.Core.Path.{_≡_, refl, sym, _∙_, ap}
+use mathlib.Core.Path.{_≡_, refl, sym, _∙_, ap, subst}
 use mathlib.Core.Bool.{Bool, true, false, cond}
 use mathlib.Core.Option.{Option, none}
 use native.Mathlib.Omega.{arith}
@@ -18,11 +18,11 @@ use Rattle.store.specs.declared.Control.{Control}
 use Rattle.layout.specs.Memory.{Lent}
 use Rattle.store.specs.Memory.{numbersOf, storeOf, recordOf}
 use Rattle.store.specs.Refusals.{Outcome, answered, keeps}
-use Rattle.store.specs.Calls.{opened, found, does}
+use Rattle.store.specs.Calls.{opened, found, does, checked}
 use Rattle.store.specs.Sound.{SoundIn}
-use Rattle.store.specs.Demand2.{opens, calls, Held, given, History, opened-by, next, held, plain, recalled, Demand2}
+use Rattle.store.specs.Demand2.{opens, calls, checks, Held, given, History, opened-by, next, held, plain, recalled, Demand2}
 use Rattle.store.proofs.Faults.{goes-on}
-use Rattle.store.proofs.Demand1.{by-open}
+use Rattle.store.proofs.Demand1.{by-open, check-changes-nothing}
 use Rattle.store.proofs.Written.{reads-back, open-is-sound}
 use Rattle.store.proofs.Simulation.{simulates, into, contents, no-faults}
 
@@ -39,6 +39,12 @@ new c m accepted = record { sound = open-is-sound c m accepted; knows = λ k goo
     holds-nothing k good = by-open c m (λ o. o .answer .number ≡ 0 → lookup (numbersOf (o .answer .control)) k (storeOf (o .answer .control) (o .lent)) ≡ none)
         (λ e. absurd (omega arith)) (λ e. absurd (omega arith))
         (λ ranges fit e. unfold recordOf fresh in ap (lookup (numbersOf c) k) (reads-back c (fresh (numbersOf c)) (fresh-sound (numbersOf c))) ∙ fresh-lookup (numbersOf c) k good)
+
+-- a check gives on what it was given
+check-keeps : (h : Held) → given (checked (h .control) (h .lent)) ≡ h
+check-keeps h =
+    let u = check-changes-nothing (h .control) (h .lent) in
+    λ i. record { control = u .control i; lent = u .words i }
 
 pub knowing : (past : History) → Knows (held past) (λ k. recalled k past)
 unfolding held recalled
@@ -63,6 +69,7 @@ knowing (next past (calls call)) = on (held past) (λ k. recalled k past) (knowi
               ∙ call-changes-lookup n (into (h .control) (h .lent) (g .sound)) call was (contents (h .control) (h .lent) (g .sound)) k good
               ∙ ap (λ a. afterCall k call a (lookup n k was)) (sym (s .answer)) ∙ ap (afterCall k call (plain (o .answer))) (g .knows k good);
         }
+knowing (next past checks) = subst (λ h. Knows h (λ k. recalled k past)) (sym (check-keeps (held past))) (knowing past)
 
 pub demand-2 : Demand2
 unfolding found

@@ -9,12 +9,16 @@ use lib.ListN.{length}
 use borrow.Author.Tests.{leb-true}
 use Rattle.rules.specs.Calls.{answer}
 use Rattle.layout.specs.Memory.{Lent}
-use Rattle.faults.specs.Faults.{withinRooms, faultOf}
+use Rattle.faults.specs.Faults.{withinRooms, faultOf, lengthsFit}
 use Rattle.faults.proofs.Accepted.{both, ranges, Sizes, sizes, accepted-tests}
 use Rattle.finding.specs.Inner.{Fit}
 use Rattle.store.specs.declared.Control.{Control}
 use Rattle.store.specs.Memory.{functionsOf, roomsOf}
-use Rattle.store.specs.Refusals.{inRange, sized, filled, Outcome, keeps, refuseIf, unlessFault}
+use Rattle.store.specs.Refusals.{inRange, sizedIn, lengthsWithin, Outcome, keeps, refuseIf, unlessFault}
+
+-- the test behind `sizedIn`, of four lengths
+abbrev pub sized : Control → ℕ → ℕ → ℕ → ℕ → Bool
+sized c n0 n1 nq nd = lengthsFit (functionsOf c) (roomsOf c) n0 n1 nq nd
 
 pub own-sizes : (c : Control) (n0 n1 nq nd : ℕ) → sized c n0 n1 nq nd ≡ true → Sizes (functionsOf c) (roomsOf c) n0 n1 nq nd
 own-sizes c n0 n1 nq nd h = sizes (functionsOf c) (roomsOf c) n0 n1 nq nd h
@@ -53,7 +57,7 @@ module _ (c : Control) (m : Lent) (after : Outcome) where
 
   pub goes-on : faultIn c m ≡ 0 → unlessFault c m after ≡ after
   unfolding unlessFault faultOf
-  goes-on h = go (inRange c) (sized c (length (m .table0)) (length (m .table1)) (length (m .queue)) (length (m .detector))) (filled c) h
+  goes-on h = go (inRange c) (sizedIn c m) (lengthsWithin c) h
     where
       go : (a b f : Bool) → _≡_ {A = ℕ} (cond a (cond b (cond f 0 3) 2) 1) 0 → tests a b f ≡ after
       go true true true e = refl
@@ -63,7 +67,7 @@ module _ (c : Control) (m : Lent) (after : Outcome) where
 
   pub keeps-all : (k : ℕ) → k ≡ faultIn c m → k ≢ 0 → keeps c m (answer k 0 0 0) ≡ unlessFault c m after
   unfolding unlessFault faultOf
-  keeps-all k e nz = go (inRange c) (sized c (length (m .table0)) (length (m .table1)) (length (m .queue)) (length (m .detector))) (filled c) e
+  keeps-all k e nz = go (inRange c) (sizedIn c m) (lengthsWithin c) e
     where
       go : (a b f : Bool) → k ≡ cond a (cond b (cond f 0 3) 2) 1 → keeps c m (answer k 0 0 0) ≡ tests a b f
       go true true true e = absurd (nz e)

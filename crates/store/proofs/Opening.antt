@@ -19,25 +19,22 @@ use Rattle.store.specs.declared.Control.{Control}
 use Rattle.store.specs.declared.Answer.{Answer}
 use Rattle.layout.specs.Memory.{wordsIn, Lent, lent}
 use Rattle.store.specs.Memory.{numbersOf, wordsOf, withLens}
-use Rattle.store.specs.Refusals.{inRange, sized, filled, outcome, answered, keeps}
+use Rattle.store.specs.Refusals.{inRange, sizedIn, lengthsWithin, outcome, answered, keeps, refuseIf}
 use Rattle.store.specs.Calls.{zeros, newRecord, opened}
 use Rattle.store.proofs.Faults.{own-sizes, faultIn}
 
-abbrev sizedIn : Control → Lent → Bool
-sizedIn c m = sized c (length (m .table0)) (length (m .table1)) (length (m .queue)) (length (m .detector))
-
 -- a new record's lengths are within its rooms
-pub new-filled : (r Q D L a0 b0 a1 b1 : ℕ) → filled (newRecord r Q D L a0 b0 a1 b1) ≡ true
+pub new-within : (r Q D L a0 b0 a1 b1 : ℕ) → lengthsWithin (newRecord r Q D L a0 b0 a1 b1) ≡ true
 unfolding withinRooms
-new-filled r Q D L a0 b0 a1 b1 = rw (le-leb 0 Q (omega arith), le-leb 0 D (omega arith))
+new-within r Q D L a0 b0 a1 b1 = rw (le-leb 0 Q (omega arith), le-leb 0 D (omega arith))
 
-pub open-refuses : (c : Control) (m : Lent) (k : ℕ) → filled c ≡ true → k ≡ faultIn c m → k ≢ 0 → keeps zeros m (answer k 0 0 0) ≡ opened c m
+pub open-refuses : (c : Control) (m : Lent) (k : ℕ) → lengthsWithin c ≡ true → k ≡ faultIn c m → k ≢ 0 → keeps zeros m (answer k 0 0 0) ≡ opened c m
 unfolding opened faultOf
-open-refuses c m k full e nz = go (inRange c) (sizedIn c m) (filled c) full e
+open-refuses c m k full e nz = go (inRange c) (sizedIn c m) (lengthsWithin c) full e
   where
     go : (a b f : Bool) → f ≡ true → k ≡ cond a (cond b (cond f 0 3) 2) 1
         → keeps zeros m (answer k 0 0 0)
-        ≡ cond (not a) (keeps zeros m (answer 1 0 0 0)) (cond (not b) (keeps zeros m (answer 2 0 0 0)) (keeps (withLens c 0 0) (wordsOf c (fresh (numbersOf c))) (answer 0 0 0 0)))
+        ≡ refuseIf (not a) 1 zeros m (refuseIf (not b) 2 zeros m (keeps (withLens c 0 0) (wordsOf c (fresh (numbersOf c))) (answer 0 0 0 0)))
     go true true true g e = absurd (nz e)
     go true true false g e = absurd (true≢false (sym g))
     go true false f g e = ap (λ j. keeps zeros m (answer j 0 0 0)) e
@@ -66,7 +63,7 @@ pub open-accepts : (c : Control) (t0 t1 q d : List ℕ) {u0 u1 p e : List ℕ} {
     → a ≡ answered (withLens c 0 0) (answer 0 0 0 0) → outcome (lent u0 u1 p e) a ≡ opened c (lent t0 t1 q d)
 unfolding opened wordsIn fresh packed writeMany
 open-accepts c t0 t1 q d h e0 e1 eq ed ea =
-    let t = accepted-tests (inRange c) (sizedIn c (lent t0 t1 q d)) (filled c) (unfold faultOf in h) in
+    let t = accepted-tests (inRange c) (sizedIn c (lent t0 t1 q d)) (lengthsWithin c) (unfold faultOf in h) in
     let z = own-sizes c (length t0) (length t1) (length q) (length d) (t .1) in
     as-one (e0 ∙ all-cleared _ t0 (z .first) ∙ free-words (c .r)) (e1 ∙ all-cleared _ t1 (z .second) ∙ free-words (c .r)) (eq ∙ all-cleared _ q (z .queue)) (ed ∙ all-cleared _ d (z .detector)) ea
     ∙ simp (t .0, t .1)

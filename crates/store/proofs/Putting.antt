@@ -17,7 +17,7 @@ use Rattle.store.specs.declared.Control.{Control}
 use Rattle.layout.specs.Memory.{Lent}
 use Rattle.store.specs.Memory.{roomsOf, functionsOf, storeOf}
 use Rattle.changing.specs.Change.{putValue}
-use Rattle.store.specs.Sound.{sizedIn}
+use Rattle.store.specs.Refusals.{sizedIn}
 use Rattle.faults.proofs.Accepted.{Sizes}
 
 abbrev cell : ℕ → ℕ → Cell

@@ -18,8 +18,9 @@ use Rattle.layout.proofs.Packed.{length-packed, read-packed}
 use Rattle.layout.specs.Memory.{wordsIn}
 use Rattle.store.specs.declared.Control.{Control}
 use Rattle.store.specs.Memory.{numbersOf, storeOf, wordsOf, recordOf}
-use Rattle.store.specs.Refusals.{inRange, sized}
-use Rattle.store.specs.Sound.{sizedIn, SoundIn, OpenIsSound}
+use Rattle.store.specs.Refusals.{inRange, sizedIn}
+use Rattle.store.specs.Sound.{SoundIn, OpenIsSound}
+use Rattle.store.proofs.Faults.{sized}
 use Rattle.faults.specs.Faults.{numbersInRange, lengthsFit}
 use Rattle.faults.proofs.Accepted.{both}
 use Rattle.store.proofs.Demand1.{by-open}

@@ -9,10 +9,10 @@ use Rattle.rules.specs.Calls.{Answer as RulesAnswer, answer, Outcome as RulesOu
 use Rattle.rules.specs.Keeps.{isAccepted}
 use Rattle.layout.specs.Memory.{Lent}
 use Rattle.changing.specs.Change.{putValue}
-use Rattle.checks.specs.Zeros.{soundIn}
+use Rattle.checks.specs.Sound.{isSoundIn}
 use Rattle.store.specs.declared.Control.{Control}
 use Rattle.store.specs.Memory.{numbersOf, storeOf, wordsOf, recordOf, withLens}
-use Rattle.store.specs.Refusals.{inRange, sized, Outcome, outcome, answered, keeps, unlessFault}
+use Rattle.store.specs.Refusals.{inRange, sizedIn, Outcome, outcome, answered, keeps, refuseIf, unlessFault}
 
 -- a record of zeros
 abbrev pub zeros : Control
@@ -27,9 +27,9 @@ newRecord r Q D L a0 b0 a1 b1 =
 -- zeros"
 unfoldable pub opened : Control → Lent → Outcome
 opened c m =
-    cond (not (inRange c)) (keeps zeros m (answer 1 0 0 0))
-    (cond (not (sized c (length (m .table0)) (length (m .table1)) (length (m .queue)) (length (m .detector)))) (keeps zeros m (answer 2 0 0 0))
-    (keeps (withLens c 0 0) (wordsOf c (fresh (numbersOf c))) (answer 0 0 0 0)))
+    refuseIf (not (inRange c)) 1 zeros m
+    (refuseIf (not (sizedIn c m)) 2 zeros m
+    (outcome (wordsOf c (fresh (numbersOf c))) (answered (withLens c 0 0) (answer 0 0 0 0))))
 
 -- Find leaves every word.
 unfoldable pub found : Control → ℕ → Lent → Outcome
@@ -44,7 +44,7 @@ defined c x v m = unlessFault c m (leaves c m (define (numbersOf c) x v (storeOf
 
 -- "Change: the value at the place that find would use is replaced", if the rules accept it; all other words stay as they are
 unfoldable pub changing : Control → ℕ → ℕ → Lent → RulesAnswer → Outcome
-changing c x v m a = cond (isAccepted a) (keeps c (putValue (search (numbersOf c) x (storeOf c m)) v m) a) (keeps c m a)
+changing c x v m a = cond (isAccepted a) (outcome (putValue (search (numbersOf c) x (storeOf c m)) v m) (answered c a)) (keeps c m a)
 
 unfoldable pub changed : Control → ℕ → ℕ → Lent → Outcome
 changed c x v m = unlessFault c m (changing c x v m (change (numbersOf c) x v (storeOf c m) .answer))
@@ -59,7 +59,7 @@ settled c n m = unlessFault c m (leaves c m (settle (numbersOf c) n (storeOf c m
 -- the claim `CheckIsExact`.
 unfoldable pub checking : Control → Lent → Outcome
 checking c m =
-    cond (soundIn (numbersOf c) (c .r) (c .«queue_len») (c .«detector_len») (m .table0) (m .table1) (m .queue) (m .detector))
+    cond (isSoundIn (numbersOf c) (c .r) (c .«queue_len») (c .«detector_len») (m .table0) (m .table1) (m .queue) (m .detector))
     (keeps c m (answer 0 0 0 0)) (keeps c m (answer 9 0 0 0))
 
 unfoldable pub checked : Control → Lent → Outcome

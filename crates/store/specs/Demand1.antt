@@ -9,9 +9,11 @@ use Rattle.layout.specs.Memory.{Lent}
 use Rattle.store.specs.Refusals.{Outcome}
 use Rattle.store.specs.Calls.{zeros, opened, does, checked}
 
+-- only 5 has a value, the one held
 pub record Untouched (c : Control) (m : Lent) (o : Outcome) : Type 0 where
   pub words : o .lent ≡ m
   pub control : o .answer .control ≡ c
+  pub value : o .answer .number ≢ 5 → o .answer .value ≡ 0
   pub no-steps : o .answer .steps ≡ 0
   pub no-moves : o .answer .moves ≡ 0
 

@@ -15,12 +15,13 @@ use Rattle.store.specs.declared.Answer.{Answer}
 use Rattle.layout.specs.Memory.{Lent}
 use Rattle.store.specs.Memory.{storeOf}
 use Rattle.store.specs.Refusals.{Outcome, answered}
-use Rattle.store.specs.Calls.{opened, found, does}
+use Rattle.store.specs.Calls.{opened, found, does, checked}
 
--- an open with a record's numbers over lent buffers of any content, or a call on the record and buffers of the last call
+-- an open with a record's numbers over lent buffers of any content, or a call or a check on the record and buffers of the last call
 pub data Event : Type 0 where
   opens : Control → Lent → Event
   calls : Call → Event
+  checks : Event
 
 -- the record and the buffers that are given on
 pub record Held : Type 0 where
@@ -38,6 +39,7 @@ pub data History : Type 0 where
 abbrev pub after : Event → Held → Held
 after (opens c m) h = cond (eqb (opened c m .answer .number) 0) (given (opened c m)) h
 after (calls call) h = given (does call (h .control) (h .lent))
+after checks h = given (checked (h .control) (h .lent))
 
 unfoldable pub held : History → Held
 held (opened-by c m accepted) = given (opened c m)
@@ -51,6 +53,7 @@ plain a = answer (a .number) (a .value) (a .steps) (a .moves)
 abbrev pub recall : ℕ → Event → Held → Option ℕ → Option ℕ
 recall k (opens c m) h before = cond (eqb (opened c m .answer .number) 0) none before
 recall k (calls call) h before = afterCall k call (plain (does call (h .control) (h .lent) .answer)) before
+recall k checks h before = before
 
 unfoldable pub recalled : ℕ → History → Option ℕ
 recalled k (opened-by c m accepted) = none

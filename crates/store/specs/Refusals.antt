@@ -14,12 +14,12 @@ abbrev pub inRange : Control → Bool
 inRange c = numbersInRange (functionsOf c) (roomsOf c)
 
 -- 2: "a buffer's length is not 2r, 2r, 3Q or 2D words"
-abbrev pub sized : Control → ℕ → ℕ → ℕ → ℕ → Bool
-sized c n0 n1 nq nd = lengthsFit (functionsOf c) (roomsOf c) n0 n1 nq nd
+abbrev pub sizedIn : Control → Lent → Bool
+sizedIn c m = lengthsFit (functionsOf c) (roomsOf c) (length (m .table0)) (length (m .table1)) (length (m .queue)) (length (m .detector))
 
 -- 3: "queue length above Q, or detector length above D"
-abbrev pub filled : Control → Bool
-filled c = withinRooms (roomsOf c)
+abbrev pub lengthsWithin : Control → Bool
+lengthsWithin c = withinRooms (roomsOf c)
 
 -- what a call leaves in the buffers, and its answer
 pub record Outcome : Type 0 where
@@ -46,5 +46,5 @@ refuseIf false number c m after = after
 unfoldable pub unlessFault : Control → Lent → Outcome → Outcome
 unlessFault c m after =
     refuseIf (not (inRange c)) 1 c m
-    (refuseIf (not (sized c (length (m .table0)) (length (m .table1)) (length (m .queue)) (length (m .detector)))) 2 c m
-    (refuseIf (not (filled c)) 3 c m after))
+    (refuseIf (not (sizedIn c m)) 2 c m
+    (refuseIf (not (lengthsWithin c)) 3 c m after))

@@ -3,18 +3,15 @@
 use Prim.Native.Nat.{ℕ, _*_, _≤_}
 use mathlib.Core.Path.{_≡_}
 use mathlib.Core.Logic.{_↔_}
-use mathlib.Core.Bool.{Bool, true}
-use lib.ListN.{length, getD}
+use mathlib.Core.Bool.{true}
+use lib.ListN.{getD}
 use Rattle.rules.specs.Sound.{Sound}
 use Rattle.rules.specs.Calls.{Call}
 use Rattle.store.specs.declared.Control.{Control}
 use Rattle.layout.specs.Memory.{Lent}
 use Rattle.store.specs.Memory.{numbersOf, storeOf}
-use Rattle.store.specs.Refusals.{inRange, sized}
+use Rattle.store.specs.Refusals.{inRange, sizedIn}
 use Rattle.store.specs.Calls.{opened, checked, does}
-
-abbrev pub sizedIn : Control → Lent → Bool
-sizedIn c m = sized c (length (m .table0)) (length (m .table1)) (length (m .queue)) (length (m .detector))
 
 pub record SoundIn (c : Control) (m : Lent) : Type 0 where
   -- "its record is in range", the numbers of its functions too
@@ -33,6 +30,9 @@ OpenIsSound = (c : Control) (m : Lent) → opened c m .answer .number ≡ 0 → 
 -- "and each call keeps it sound"
 abbrev pub CallKeepsSound : Type 0
 CallKeepsSound = (call : Call) (c : Control) (m : Lent) → SoundIn c m → SoundIn (does call c m .answer .control) (does call c m .lent)
+
+abbrev pub CheckKeepsSound : Type 0
+CheckKeepsSound = (c : Control) (m : Lent) → SoundIn c m → SoundIn (checked c m .answer .control) (checked c m .lent)
 
 -- "Check: accepted exactly for a sound store", both ways
 abbrev pub CheckIsExact : Type 0

@@ -6,7 +6,7 @@ use Rattle.store.specs.declared.Control.{Control}
 use Rattle.store.specs.Refusals.{outcome, answered}
 use Rattle.store.specs.Calls.{newRecord}
 use Rattle.store.proofs.Carrying.{tested}
-use Rattle.store.proofs.Opening.{new-filled, open-refuses, open-accepts}
+use Rattle.store.proofs.Opening.{new-within, open-refuses, open-accepts}
 use borrow.Author.Needs.{needs}
 use Rattle.store.proofs.Control.open.Statement.{statement}
 use Rattle.store.proofs.Control.open.Tie as tie
@@ -31,7 +31,7 @@ returns c =
     let a = c .before .before .before .before .before .before .before .before .before .before .args in
     let m = lent (a .t0 .now) (a .t1 .now) (a .queue .now) (a .detector .now) in
     ap (outcome m) (c .reply .ensures ∙ ap (λ (z : Control). answered z (answer (c .before .before .before .fault .result) 0 0 0)) (c .before .zeros .ensures))
-    ∙ open-refuses (newRecord (a .r) (a .queue-room) (a .detector-room) (a .step-limit) (a .a0) (a .b0) (a .a1) (a .b1)) m _ (new-filled (a .r) (a .queue-room) (a .detector-room) (a .step-limit) (a .a0) (a .b0) (a .a1) (a .b1)) (tested (newRecord (a .r) (a .queue-room) (a .detector-room) (a .step-limit) (a .a0) (a .b0) (a .a1) (a .b1)) m (c .before .before .before .before .before .functions .ensures) (c .before .before .before .before .rooms .ensures) (c .before .before .before .fault .ensures)) (c .before .before .if1 .taken)
+    ∙ open-refuses (newRecord (a .r) (a .queue-room) (a .detector-room) (a .step-limit) (a .a0) (a .b0) (a .a1) (a .b1)) m _ (new-within (a .r) (a .queue-room) (a .detector-room) (a .step-limit) (a .a0) (a .b0) (a .a1) (a .b1)) (tested (newRecord (a .r) (a .queue-room) (a .detector-room) (a .step-limit) (a .a0) (a .b0) (a .a1) (a .b1)) m (c .before .before .before .before .before .functions .ensures) (c .before .before .before .before .rooms .ensures) (c .before .before .before .fault .ensures)) (c .before .before .if1 .taken)
 
 clear-all-requires : tie.Need-clear-all-requires
 clear-all-requires c κs = search needs

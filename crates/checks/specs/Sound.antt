@@ -9,5 +9,5 @@ use Rattle.steps.specs.Shape.{storeIn}
 use Rattle.entries.specs.Zeros.{allZero}
 
 -- the store that the words hold passes the test, and the places past the lengths are zero
-unfoldable pub soundIn : Numbers → ℕ → ℕ → ℕ → List ℕ → List ℕ → List ℕ → List ℕ → Bool
-soundIn n r ql dl t0 t1 q d = isSound n (storeIn r ql dl t0 t1 q d) && allZero (drop (3 * ql) q) && allZero (drop (2 * dl) d)
+unfoldable pub isSoundIn : Numbers → ℕ → ℕ → ℕ → List ℕ → List ℕ → List ℕ → List ℕ → Bool
+isSoundIn n r ql dl t0 t1 q d = isSound n (storeIn r ql dl t0 t1 q d) && allZero (drop (3 * ql) q) && allZero (drop (2 * dl) d)
