@@ -36,14 +36,14 @@ pub record Ready (ql dl : ℕ) (q d : List ℕ) : Type 0 where
   pub detector : d ≡ packed pairForm (length d) (pairsIn dl d)
 
 -- kind 1
-pub record Landed (i y v ql dl : ℕ) (t q d t′ q′ d′ : List ℕ) (a : Turn) : Type 0 where
+pub record Landed (i y v ql : ℕ) (t q d t′ q′ d′ : List ℕ) (a : Turn) : Type 0 where
   pub table : t′ ≡ sets t (2 * i) (y ∷ v ∷ [])
   pub queue : q′ ≡ packed entryForm (length q) (drop 1 (entriesIn ql q))
   pub detector : d′ ≡ packed pairForm (length d) []
   pub answer : a ≡ turn 1 (ql - 1) 0
 
 -- kind 2
-pub record Aside (y v b ql dl : ℕ) (q d q′ d′ : List ℕ) (a : Turn) : Type 0 where
+pub record Aside (y v b ql : ℕ) (q d q′ d′ : List ℕ) (a : Turn) : Type 0 where
   pub queue : q′ ≡ packed entryForm (length q) (drop 1 (entriesIn ql q) ++ entry y v b ∷ [])
   pub detector : d′ ≡ packed pairForm (length d) []
   pub answer : a ≡ turn 2 ql 0

@@ -30,7 +30,7 @@ pub fn land(
     requires { ⌜ 0 < ql ⌝ }
     requires { ⌜ Ready ql dl (now queue) (now detector) ⌝ }
     requires { ⌜ 2 * i + 1 < length (now t) ⌝ }
-    ensures { λ a. ⌜ Landed i y v ql dl (now (t .entry)) (now (queue .entry)) (now (detector .entry)) (now (t .exit)) (now (queue .exit)) (now (detector .exit)) a ⌝ }
+    ensures { λ a. ⌜ Landed i y v ql (now (t .entry)) (now (queue .entry)) (now (detector .entry)) (now (t .exit)) (now (queue .exit)) (now (detector .exit)) a ⌝ }
 {
     words::put_two(t, 2 * i, y, v);
     words::close_gap(queue, 0, 3, 3 * (ql as usize));
@@ -54,7 +54,7 @@ pub fn set_aside(
 ) -> Turn
     requires { ⌜ 0 < ql ⌝ }
     requires { ⌜ Ready ql dl (now queue) (now detector) ⌝ }
-    ensures { λ a. ⌜ Aside y v b ql dl (now (queue .entry)) (now (detector .entry)) (now (queue .exit)) (now (detector .exit)) a ⌝ }
+    ensures { λ a. ⌜ Aside y v b ql (now (queue .entry)) (now (detector .entry)) (now (queue .exit)) (now (detector .exit)) a ⌝ }
 {
     let end = 3 * (ql as usize);
     words::close_gap(queue, 0, 3, end);

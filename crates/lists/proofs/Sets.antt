@@ -1,11 +1,12 @@
 -- Laws of lists as finite sets: what counting gives, lists end to end, a list turned round, each member once. Assumes nothing.
 use mathlib.Core.Path.{_≡_, refl, sym, _∙_, ap, subst}
+use mathlib.Core.Bool.{Bool, true, false, cond, _||_, true≢false}
 use mathlib.Core.Logic.{_⊎_, inl, inr, ⊎-elim, ⊎-map}
 use mathlib.Core.List.{List, [], _∷_, _++_, map, List·Memᴰ·head as here, List·Memᴰ·tail as there, List·Memᴰ·cases-cons as split, Memᴰ·cast as cast, List·Memᴰ·not-nil as not-nil, List·Memᴰ·append-cases as append-cases, Memᴰ·append-left as append-left, Memᴰ·append-right as append-right, List·Memᴰ·eq-of-singleton as eq-of-singleton, Memᴰ·map, Memᴰ·of-map}
 use Prim.Native.Nat.{suc, _+_, _≤_, _<_}
 use native.Mathlib.Omega.{arith}
 use lib.ListN.{length, length-append}
-use Rattle.lists.specs.Lists.{_∈_, NoDup, nil, more, mem?, keep, eachOnce}
+use Rattle.lists.specs.Lists.{_∈_, NoDup, nil, more, isAmong, eachOnce}
 
 module _ {A : Type 0} where
   -- l without one place of x
@@ -100,28 +101,70 @@ module _ {A : Type 0} where
   some [] n = absurd (omega arith)
   some (x ∷ l) n = (x, here refl)
 
-  module _ (d : Discrete A) where
+  -- a member with a property, or none
+  unfoldable pub any? : {P : A → Type 0} → ((a : A) → Dec (P a)) → (l : List A) → ((a : A) × (a ∈ l) × P a) ⊎ ((a : A) → a ∈ l → P a → ⊥)
+  any? d [] = inr (λ a m p. not-nil m)
+  any? {P} d (x ∷ l) = go (d x) (any? d l)
+    where
+      go : Dec (P x) → ((a : A) × (a ∈ l) × P a) ⊎ ((a : A) → a ∈ l → P a → ⊥) → ((a : A) × (a ∈ x ∷ l) × P a) ⊎ ((a : A) → a ∈ x ∷ l → P a → ⊥)
+      go (yes p) s = inl (x, here refl, p)
+      go (no n) (inl t) = inl (t .0, there (t .1), t .2)
+      go (no n) (inr f) = inr (λ a m p. ⊎-elim (λ e. n (subst P e p)) (λ i. f a i p) (split m))
+
+  -- whether a is a member of l
+  unfoldable pub mem? : Discrete A → (a : A) (l : List A) → Dec (a ∈ l)
+  mem? d a l = ⊎-elim (λ t. yes (cast (t .2) (t .1))) (λ f. no (λ m. f a m refl)) (any? (d a) l)
+
+  -- a test of equality
+  pub record Tells (same : A → A → Bool) : Type 0 where
+    pub equal : (a b : A) → same a b ≡ true → a ≡ b
+    pub itself : (a : A) → same a a ≡ true
+
+  module _ {same : A → A → Bool} (tells : Tells same) where
+    among : (a : A) (l : List A) → isAmong same a l ≡ true → a ∈ l
+    unfolding isAmong
+    among a [] e = absurd (true≢false (sym e))
+    among a (x ∷ l) e = go (same a x) refl e (among a l)
+      where
+        go : (b : Bool) → same a x ≡ b → (b || isAmong same a l) ≡ true → (isAmong same a l ≡ true → a ∈ l) → a ∈ x ∷ l
+        go true h e′ below = here (tells .equal a x h)
+        go false h e′ below = there (below e′)
+
+    not-among : (a : A) (l : List A) → isAmong same a l ≡ false → a ∈ l → ⊥
+    unfolding isAmong
+    not-among a [] e m = not-nil m
+    not-among a (x ∷ l) e m = go (same a x) refl e (not-among a l) (split m)
+      where
+        go : (b : Bool) → same a x ≡ b → (b || isAmong same a l) ≡ false → (isAmong same a l ≡ false → a ∈ l → ⊥) → (a ≡ x) ⊎ (a ∈ l) → ⊥
+        go true h e′ not-in i = true≢false e′
+        go false h e′ not-in (inl p) = true≢false (sym (ap (same a) (sym p) ∙ tells .itself a) ∙ h)
+        go false h e′ not-in (inr i) = not-in e′ i
+
     Once : List A → List A → Type 0
     Once l r = NoDup r × ((a : A) → a ∈ l → a ∈ r) × ((a : A) → a ∈ r → a ∈ l)
 
-    once : (l : List A) → Once l (eachOnce d l)
+    once : (l : List A) → Once l (eachOnce same l)
     unfolding Once eachOnce
     once [] = (nil, λ a m. m, λ a m. m)
-    once (x ∷ l) = go (mem? d x (eachOnce d l)) (once l)
+    once (x ∷ l) = go (isAmong same x (eachOnce same l)) refl (once l)
       where
-        go : (s : Dec (x ∈ eachOnce d l)) → Once l (eachOnce d l) → Once (x ∷ l) (keep s x (eachOnce d l))
-        go (yes m) o = unfold keep in (o .0, λ a i. ⊎-elim (λ e. cast e m) (o .1 a) (split i), λ a i. there (o .2 a i))
-        go (no n) o = unfold keep in (more n (o .0), λ a i. ⊎-elim here (λ j. there (o .1 a j)) (split i), λ a i. ⊎-elim here (λ j. there (o .2 a j)) (split i))
+        go : (b : Bool) → isAmong same x (eachOnce same l) ≡ b → Once l (eachOnce same l) → Once (x ∷ l) (cond b (eachOnce same l) (x ∷ eachOnce same l))
+        go true e o = (o .0, λ a i. ⊎-elim (λ p. cast p (among x (eachOnce same l) e)) (o .1 a) (split i), λ a i. there (o .2 a i))
+        go false e o = (
+          more (not-among x (eachOnce same l) e) (o .0),
+          λ a i. ⊎-elim here (λ j. there (o .1 a j)) (split i),
+          λ a i. ⊎-elim here (λ j. there (o .2 a j)) (split i),
+        )
 
-    pub eachOnce-nodup : (l : List A) → NoDup (eachOnce d l)
+    pub eachOnce-nodup : (l : List A) → NoDup (eachOnce same l)
     unfolding Once
     eachOnce-nodup l = (once l) .0
 
-    pub to-eachOnce : {a : A} (l : List A) → a ∈ l → a ∈ eachOnce d l
+    pub to-eachOnce : {a : A} (l : List A) → a ∈ l → a ∈ eachOnce same l
     unfolding Once
     to-eachOnce {a} l m = (once l) .1 a m
 
-    pub of-eachOnce : {a : A} (l : List A) → a ∈ eachOnce d l → a ∈ l
+    pub of-eachOnce : {a : A} (l : List A) → a ∈ eachOnce same l → a ∈ l
     unfolding Once
     of-eachOnce {a} l m = (once l) .2 a m
 

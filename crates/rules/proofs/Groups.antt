@@ -4,12 +4,13 @@ use mathlib.Core.Logic.{⊎-elim}
 use mathlib.Core.List.{List, [], _∷_, map, List·Memᴰ·head as here, List·Memᴰ·tail as there, List·Memᴰ·cases-cons as split, Memᴰ·cast as cast, List·Memᴰ·not-nil as not-nil, List·Memᴰ·append-cases as append-cases, Memᴰ·append-left as append-left, Memᴰ·append-right as append-right}
 use Prim.Native.Nat.{ℕ, zero, suc, _+_, _≤_, _<_}
 use native.Mathlib.Omega.{arith}
-use native.Mathlib.Decide.{ℕ-discrete}
+use lib.Dec.{eqb}
 use lib.ListN.{length}
-use Rattle.lists.specs.Lists.{_∈_, NoDup, any?, mem?, eachOnce}
-use Rattle.lists.proofs.Sets.{Cut, cut, Rest, rest, pigeonhole, eachOnce-nodup, to-eachOnce, of-eachOnce, some, Sieve, sieve, to-map, of-map}
+use Rattle.lists.specs.Lists.{_∈_, NoDup, eachOnce}
+use Rattle.lists.proofs.Sets.{any?, mem?, Cut, cut, Rest, rest, pigeonhole, eachOnce-nodup, to-eachOnce, of-eachOnce, some, Sieve, sieve, to-map, of-map}
 use Rattle.rules.specs.Store.{Table, table-0, table-1, other}
-use Rattle.rules.specs.Groups.{Sided, sided?, homeCell, Shares, Linked, itself, link, IsGroup, cellsOf}
+use Rattle.rules.proofs.Sided.{sided?, sided-tells, eqb-tells}
+use Rattle.rules.specs.Groups.{Sided, homeCell, Shares, Linked, itself, link, IsGroup, cellsOf}
 
 -- what holds at a side and at the other holds at each
 pub both : (P : Table → Type 0) (s : Table) → P s → P (other s) → (t : Table) → P t
@@ -21,13 +22,13 @@ both P table-0 a b table-0 = a
 module _ (h : Table → ℕ → ℕ) where
   pub to-cells : (G : List ℕ) (s : Table) {k : ℕ} → k ∈ G → homeCell h s k ∈ cellsOf h G
   unfolding cellsOf
-  to-cells G table-0 m = to-eachOnce sided? _ (append-left _ (to-map (homeCell h table-0) m))
-  to-cells G table-1 m = to-eachOnce sided? _ (append-right (map (homeCell h table-0) G) (to-map (homeCell h table-1) m))
+  to-cells G table-0 m = to-eachOnce sided-tells _ (append-left _ (to-map (homeCell h table-0) m))
+  to-cells G table-1 m = to-eachOnce sided-tells _ (append-right (map (homeCell h table-0) G) (to-map (homeCell h table-1) m))
 
   pub of-cells : (G : List ℕ) {c : Sided} → c ∈ cellsOf h G → (k : ℕ) × (k ∈ G) × ((s : Table) × (homeCell h s k ≡ c))
   unfolding cellsOf
   of-cells G m = ⊎-elim (λ i. let t = of-map (homeCell h table-0) G i in (t .0, t .1, (table-0, t .2))) (λ i. let t = of-map (homeCell h table-1) G i in (t .0, t .1, (table-1, t .2)))
-      (append-cases (map (homeCell h table-0) G) (of-eachOnce sided? _ m))
+      (append-cases (map (homeCell h table-0) G) (of-eachOnce sided-tells _ m))
 
   -- W has a homeCell h of k; W has both
   abbrev pub Touch : List Sided → ℕ → Type 0
@@ -88,7 +89,7 @@ module _ (h : Table → ℕ → ℕ) where
             let close : (z : ℕ) → z ∈ G → Touch (v .0) z → Done (v .0) z = λ z m t. ⊎-elim (λ i s. v .2 _ (done z i s)) (λ i. v .3 z i t) (r .2 z m) in
             let seed : Done (v .0) x = gather (Done (v .0)) (λ y z a b s e. close y a (s .0, cast (s .1) (e (s .0)))) ((g .linked k (sub k i)) .1) (λ s. v .2 _ (done k i s)) in
             let all : (z : ℕ) → z ∈ G → Done (v .0) z = λ z m. spread (Done (v .0)) (λ y z a b s e. close z b (s .0, cast (sym (s .1)) (e (s .0)))) seed ((g .linked z m) .1) in
-            let fits : length (cellsOf h G) ≤ length (v .0) = pigeonhole (v .0) (eachOnce-nodup sided? _) (λ c m. let t = of-cells G m in cast (sym ((t .2) .1)) (all (t .0) (t .1) ((t .2) .0))) in
+            let fits : length (cellsOf h G) ≤ length (v .0) = pigeonhole (v .0) (eachOnce-nodup sided-tells _) (λ c m. let t = of-cells G m in cast (sym ((t .2) .1)) (all (t .0) (t .1) ((t .2) .0))) in
             omega (arith, r .1, v .1)
 
   -- each present key has a group
@@ -113,10 +114,10 @@ module _ (h : Table → ℕ → ℕ) where
 
           pack : Sieve (Touch (v .0)) ps → (G : List ℕ) × IsGroup h ps x G
           pack f = (
-            eachOnce ℕ-discrete (f .0),
+            eachOnce eqb (f .0),
             record {
-              once = eachOnce-nodup ℕ-discrete (f .0);
-              linked = λ z i. let p = f .1 z (of-eachOnce ℕ-discrete _ i) in (p .0, near z ((p .1) .0) (p .0) (v .4 _ ((p .1) .1)));
-              whole = λ z i l. to-eachOnce ℕ-discrete (f .0) (f .2 z i (table-1, reach l table-1));
+              once = eachOnce-nodup eqb-tells (f .0);
+              linked = λ z i. let p = f .1 z (of-eachOnce eqb-tells _ i) in (p .0, near z ((p .1) .0) (p .0) (v .4 _ ((p .1) .1)));
+              whole = λ z i l. to-eachOnce eqb-tells (f .0) (f .2 z i (table-1, reach l table-1));
             },
           )

@@ -1,4 +1,5 @@
 pub mod ByHand
+pub mod Sided
 pub mod Groups
 pub mod Steps
 pub mod Runs

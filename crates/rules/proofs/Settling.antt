@@ -12,8 +12,9 @@ use Rattle.rules.specs.Step.{step}
 use Rattle.rules.specs.Run.{run}
 use Rattle.rules.specs.Search.{Place, inTable, waitingAt, nowhere, keyAt}
 use Rattle.rules.specs.Sound.{present, SoundContents}
-use Rattle.rules.specs.Groups.{Sided, sided-path, itself, IsGroup, cellsOf}
+use Rattle.rules.specs.Groups.{Sided, itself, IsGroup, cellsOf}
 use Rattle.rules.specs.Demand3.{bound, GroupsFit}
+use Rattle.rules.proofs.Sided.{sided-path}
 use Rattle.rules.proofs.Groups.{to-cells, groupOf}
 use Rattle.rules.proofs.Runs.{run-keeps, run-idle, run-more, run-add}
 use Rattle.rules.proofs.Places.{in-present, of-present}

@@ -15,7 +15,8 @@ use Rattle.rules.specs.Store.{Table, table-0, table-1, other, sameTable,
 use Rattle.rules.specs.Step.{isPair, isMarked, pair, headed, taken, moved, stepAt, step}
 use Rattle.rules.specs.Search.{inTable, waitingAt, keyAt}
 use Rattle.rules.specs.Sound.{present, SoundContents}
-use Rattle.rules.specs.Groups.{Sided, sided-path, homeCell}
+use Rattle.rules.specs.Groups.{Sided, homeCell}
+use Rattle.rules.proofs.Sided.{sided-path, same-table}
 use Rattle.rules.proofs.Steps.{by-kind, by-front}
 use Rattle.rules.proofs.Places.{in-present, one-place}
 use Rattle.rules.proofs.Parts.{meant-side, put-cases}
@@ -63,12 +64,6 @@ put-written ts t i c l d =
 or-true : (a b : Bool) → a || b ≡ true → (a ≡ true) ⊎ (b ≡ true)
 or-true true b e = inl e
 or-true false b e = inr e
-
-same-table : (t u : Table) → sameTable t u ≡ true → t ≡ u
-same-table table-0 table-0 e = refl
-same-table table-0 table-1 e = absurd (true≢false (sym e))
-same-table table-1 table-0 e = absurd (true≢false (sym e))
-same-table table-1 table-1 e = refl
 
 same-pair : (y : ℕ) (t : Table) (p : Pair) → isPair y t p ≡ true → marking p ≡ (y, t)
 same-pair y t p e =

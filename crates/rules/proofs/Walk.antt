@@ -7,10 +7,11 @@ use mathlib.Core.List.{List·Memᴰ·not-nil as not-nil, List·Memᴰ·eq-of-sin
 use mathlib.Core.List.{Memᴰ·append-left as append-left, Memᴰ·append-right as append-right}
 use native.Mathlib.Omega.{arith}
 use lib.ListN.{length, length-map, length-append}
-use Rattle.lists.specs.Lists.{_∈_, NoDup, nil, more, mem?, eachOnce}
-use Rattle.lists.proofs.Sets.{pigeonhole, eachOnce-nodup, to-eachOnce, of-eachOnce, to-map, of-map, map-nodup, nodup-head, nodup-tail}
+use Rattle.lists.specs.Lists.{_∈_, NoDup, nil, more, eachOnce}
+use Rattle.lists.proofs.Sets.{mem?, pigeonhole, eachOnce-nodup, to-eachOnce, of-eachOnce, to-map, of-map, map-nodup, nodup-head, nodup-tail}
 use Rattle.rules.specs.Store.{Table, table-0, table-1, other}
-use Rattle.rules.specs.Groups.{Sided, sided-path, sided?, homeCell, itself, link, IsGroup, cellsOf}
+use Rattle.rules.specs.Groups.{Sided, sameSided, homeCell, itself, link, IsGroup, cellsOf}
+use Rattle.rules.proofs.Sided.{sided-path, sided?, sided-tells}
 use Rattle.rules.proofs.Groups.{both, Done, growth}
 use Rattle.rules.proofs.View.{aim, Written, Seen, other-differs}
 
@@ -162,22 +163,22 @@ module _ {h : Table → ℕ → ℕ} {ps : List ℕ} (f₀ : Sided) {G : List �
     crowd m m₀ = let lt : length (cellsOf h G) < length G = growth h g W nd sub done (omega (arith, length-map W K)) in omega arith
       where
         W : List Sided
-        W = eachOnce sided? (cells h M)
+        W = eachOnce sameSided (cells h M)
 
         closed : (p : Sided) → p ∈ f ∷ M → aim h p ∈ cells h M → Done h W (p .0)
-        closed p i j = both (λ b. homeCell h b (p .0) ∈ W) (p .1) (to-eachOnce sided? _ j)
-            (to-eachOnce sided? _ (⊎-elim (λ e. cast (ap (λ x. aim h (flip x)) e) m₀) (λ k. k) (v .back p i)))
+        closed p i j = both (λ b. homeCell h b (p .0) ∈ W) (p .1) (to-eachOnce sided-tells _ j)
+            (to-eachOnce sided-tells _ (⊎-elim (λ e. cast (ap (λ x. aim h (flip x)) e) m₀) (λ k. k) (v .back p i)))
 
         -- a key of the list is the front's or one of M's
         whose : (z : ℕ) → z ∈ f .0 ∷ map K W → (p : Sided) × (p ∈ f ∷ M) × (aim h p ∈ cells h M) × (z ≡ p .0)
-        whose z i = ⊎-elim (λ e. (f, here refl, m, e)) (λ j. let t = of-map K W j in lies (t .0) (of-eachOnce sided? _ (t .1)) (t .2)) (split i)
+        whose z i = ⊎-elim (λ e. (f, here refl, m, e)) (λ j. let t = of-map K W j in lies (t .0) (of-eachOnce sided-tells _ (t .1)) (t .2)) (split i)
           where
             lies : (c : Sided) → c ∈ cells h M → K c ≡ z → (p : Sided) × (p ∈ f ∷ M) × (aim h p ∈ cells h M) × (z ≡ p .0)
             lies c j e = let o = (v .own c j) .1 in (o .0, there (o .1), to-map (aim h) (o .1), sym e ∙ o .2)
 
         nd : NoDup (f .0 ∷ map K W)
         nd = more (λ i. let t = of-map K W i in s .front-apart (t .0) (t .2))
-            (map-nodup K (λ a b i j e. s .one-cell a b ((v .own a (of-eachOnce sided? _ i)) .0) e) (eachOnce-nodup sided? _))
+            (map-nodup K (λ a b i j e. s .one-cell a b ((v .own a (of-eachOnce sided-tells _ i)) .0) e) (eachOnce-nodup sided-tells _))
 
         sub : (z : ℕ) → z ∈ f .0 ∷ map K W → z ∈ G
         sub z i = let t = whose z i in cast (t .3) (v .group (t .0) (t .1))

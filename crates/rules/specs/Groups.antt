@@ -1,37 +1,20 @@
 -- Document 01, groups: "Two present keys are in one group if they share a cell, directly or through other present keys." Over any two functions
 -- and any list of keys. Assumes nothing.
-use mathlib.Core.Path.{_≡_, refl, sym, ap, subst}
+use mathlib.Core.Path.{_≡_}
+use mathlib.Core.Bool.{Bool, _&&_}
 use mathlib.Core.List.{List, _++_, map}
 use Prim.Native.Nat.{ℕ}
-use native.Mathlib.Decide.{ℕ-discrete}
+use lib.Dec.{eqb}
 use Rattle.lists.specs.Lists.{_∈_, NoDup, eachOnce}
-use Rattle.rules.specs.Store.{Table, table-0, table-1}
-
--- the two tables told apart
-abbrev isTable0 : Table → Type 0
-isTable0 table-0 = Unit {0}
-isTable0 table-1 = ⊥
-
-unfoldable pub table? : Discrete Table
-table? table-0 table-0 = yes refl
-table? table-0 table-1 = no (λ e. subst isTable0 e tt)
-table? table-1 table-0 = no (λ e. subst isTable0 (sym e) tt)
-table? table-1 table-1 = yes refl
+use Rattle.rules.specs.Store.{Table, table-0, table-1, sameTable}
 
 -- a number with a table: a cell by its place in the table, or a key that heads for the table
 abbrev pub Sided : Type 0
 Sided = ℕ × Table
 
-unfoldable pub sided-path : {p q : Sided} → p .0 ≡ q .0 → p .1 ≡ q .1 → p ≡ q
-sided-path e f = λ i. (e i, f i)
-
-unfoldable pub sided? : Discrete Sided
-sided? p q = go (ℕ-discrete (p .0) (q .0)) (table? (p .1) (q .1))
-  where
-    go : Dec (p .0 ≡ q .0) → Dec (p .1 ≡ q .1) → Dec (p ≡ q)
-    go (no n) d = no (λ e. n (ap (λ x. x .0) e))
-    go (yes e) (no n) = no (λ f. n (ap (λ x. x .1) f))
-    go (yes e) (yes f) = yes (sided-path e f)
+-- the same number and the same table
+abbrev pub sameSided : Sided → Sided → Bool
+sameSided p q = eqb (p .0) (q .0) && sameTable (p .1) (q .1)
 
 module _ (home : Table → ℕ → ℕ) where
   -- the cell of table t that is the home of key k
@@ -55,4 +38,4 @@ module _ (home : Table → ℕ → ℕ) where
 
   -- "The group's cells are all homes of its keys", each cell once
   unfoldable pub cellsOf : List ℕ → List Sided
-  cellsOf G = eachOnce sided? (map (homeCell table-0) G ++ map (homeCell table-1) G)
+  cellsOf G = eachOnce sameSided (map (homeCell table-0) G ++ map (homeCell table-1) G)

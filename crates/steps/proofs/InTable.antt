@@ -75,14 +75,14 @@ module _ (r room i b ql dl : ℕ) (t q d : List ℕ) (o : List Cell) (size : len
     abbrev Leaves : Stepped → Type 0
     Leaves x = After r x (meant b) o (length q) (length d) t′ q′ d′ a
 
-    pub lands : getD t (2 * i) 0 ≡ 0 → Landed i (getD q 0 0) (getD q 1 0) ql dl t q d t′ q′ d′ a → Leaves stepped
+    pub lands : getD t (2 * i) 0 ≡ 0 → Landed i (getD q 0 0) (getD q 1 0) ql t q d t′ q′ d′ a → Leaves stepped
     lands free w = by-kind Leaves room (meant b) i e rest s
         (λ z. record { tables = taken-in t′ (w .table); queue = w .queue; detector = w .detector; answer = w .answer ∙ ap (λ k. turn 1 k 0) (sym waits) })
         (λ nz m. absurd (nz (key-here ∙ free)))
         (λ nz m l. absurd (nz (key-here ∙ free)))
 
     pub sets-aside : getD t (2 * i) 0 ≢ 0 → b ≤ 1 → (isMarked (getD q 0 0) (meant b) (pairsIn dl d) || leb room dl) ≡ true
-        → Aside (getD q 0 0) (getD q 1 0) b ql dl q d q′ d′ a → t′ ≡ t → Leaves stepped
+        → Aside (getD q 0 0) (getD q 1 0) b ql q d q′ d′ a → t′ ≡ t → Leaves stepped
     sets-aside held side stop w same = by-kind Leaves room (meant b) i e rest s
         (λ z. absurd (held (sym key-here ∙ z)))
         (λ nz m. record {
