@@ -18,11 +18,11 @@ use Rattle.rules.specs.Calls.{Answer, answer, Outcome as RulesOutcome, refused,
 use Rattle.layout.specs.Forms.{entryForm, pairForm}
 use Rattle.layout.proofs.Forms.{entry-lawful, length-readMany}
 use Rattle.layout.proofs.Ready.{one-behind}
-use Rattle.kinds.specs.Shape.{Ready, entriesIn, entry}
+use Rattle.kinds.specs.Shape.{Ready, entry}
 use Rattle.steps.specs.Shape.{Holds}
 use Rattle.steps.proofs.Going.{holds-store}
 use Rattle.numbers.specs.declared.Functions.{Functions}
-use Rattle.layout.specs.Memory.{Lent, lent, wordsIn}
+use Rattle.layout.specs.Memory.{Lent, lent, wordsIn, entriesIn}
 use Rattle.numbers.specs.declared.Rooms.{Rooms}
 use Rattle.finding.specs.Inner.{numbersOf, storeOf, withLens, Outcome, outcome, answered, leaves, FitIn, Told, replyOf, Sees}
 use Rattle.finding.specs.declared.Seen.{Seen}

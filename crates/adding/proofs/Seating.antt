@@ -16,9 +16,9 @@ use Rattle.rules.specs.Run.{ran, counted, run}
 use Rattle.rules.specs.Calls.{joined}
 use Rattle.rules.proofs.Runs.{run-idle, run-more}
 use Rattle.layout.specs.Forms.{cellForm, entryForm, pairForm, readMany, writeMany, packed}
-use Rattle.layout.specs.Memory.{lent, wordsIn, Tidied}
+use Rattle.layout.specs.Memory.{lent, wordsIn, Tidied, cellsIn, entriesIn}
 use Rattle.layout.proofs.Forms.{cell-lawful, length-readMany, write-all, write-set}
-use Rattle.kinds.specs.Shape.{cellsIn, entriesIn, entry}
+use Rattle.kinds.specs.Shape.{entry}
 use Rattle.steps.proofs.InTable.{cell-read}
 use Rattle.finding.specs.Inner.{numbersOf, storeOf, outcome, FitIn, Told, tells}
 use Rattle.settling.specs.Ran.{ranOutcome}

@@ -16,10 +16,10 @@ use Rattle.numbers.specs.Ranges.{goodKey}
 use Rattle.numbers.specs.Homes.{home0, home1}
 use Rattle.rules.specs.Store.{Table, other, meant, Cell, Tables, cellAt, Numbers}
 use Rattle.rules.specs.Check.{isHeld, cellOk, cellsOk}
+use Rattle.layout.specs.Memory.{cellsIn, homesOf}
 use Rattle.layout.specs.Forms.{cellForm, readMany}
 use Rattle.layout.proofs.Forms.{read-from, read-none}
-use Rattle.kinds.specs.Shape.{cellsIn}
-use Rattle.steps.specs.Shape.{withTable, homesOf}
+use Rattle.steps.specs.Shape.{withTable}
 use Rattle.steps.proofs.InTable.{cell-in, cell-read}
 
 -- the cell at place i

@@ -5,8 +5,8 @@ ghost use Prim.Native.Nat.{_+_, _*_, _≤_, _<_};
 ghost use lib.ListN.{length, getD};
 ghost use Rattle.rules.specs.Store.{meant, Cell, Numbers};
 ghost use Rattle.rules.specs.Check.{isHeld, cellOk, cellsOk};
-ghost use Rattle.kinds.specs.Shape.{cellsIn};
-ghost use Rattle.steps.specs.Shape.{withTable, homesOf};
+ghost use Rattle.layout.specs.Memory.{cellsIn, homesOf};
+ghost use Rattle.steps.specs.Shape.{withTable};
 use numbers::Functions;
 
 // The home of x in the table that b means.

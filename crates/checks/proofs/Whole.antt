@@ -6,7 +6,7 @@ use mathlib.Core.List.{List}
 use lib.ListN.{drop}
 use Rattle.rules.specs.Store.{table-0, table-1, Tables, Numbers}
 use Rattle.rules.specs.Check.{cellsOk, queueOk, marksOk, isSound}
-use Rattle.kinds.specs.Shape.{cellsIn, entriesIn, pairsIn}
+use Rattle.layout.specs.Memory.{cellsIn, entriesIn, pairsIn}
 use Rattle.entries.specs.Zeros.{allZero}
 use Rattle.checks.specs.Sound.{isSoundIn}
 

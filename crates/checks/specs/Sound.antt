@@ -5,7 +5,7 @@ use mathlib.Core.List.{List}
 use lib.ListN.{drop}
 use Rattle.rules.specs.Store.{Numbers}
 use Rattle.rules.specs.Check.{isSound}
-use Rattle.steps.specs.Shape.{storeIn}
+use Rattle.layout.specs.Memory.{storeIn}
 use Rattle.entries.specs.Zeros.{allZero}
 
 -- the store that the words hold passes the test, and the places past the lengths are zero

@@ -3,7 +3,8 @@ ghost use mathlib.Core.Path.{_≡_};
 ghost use Prim.Native.Nat.{_*_, _≤_};
 ghost use lib.ListN.{length};
 ghost use Rattle.rules.specs.Store.{Numbers};
-ghost use Rattle.steps.specs.Shape.{homesOf, TablesReady};
+ghost use Rattle.layout.specs.Memory.{homesOf};
+ghost use Rattle.steps.specs.Shape.{TablesReady};
 ghost use Rattle.checks.specs.Sound.{isSoundIn};
 use numbers::Functions;
 

@@ -14,10 +14,10 @@ use Rattle.rules.specs.Store.{table-0, table-1, meant, Entry, Pair, Tables, Num
 use Rattle.rules.specs.Step.{isMarked}
 use Rattle.rules.specs.Search.{Place, inTable, waitingAt, nowhere, searchQueue}
 use Rattle.rules.specs.Check.{isHeld, waitsIn, entryOk, queueOk, marksOk}
+use Rattle.layout.specs.Memory.{cellsIn}
 use Rattle.layout.specs.Forms.{entryForm, pairForm, readMany}
 use Rattle.layout.specs.Places.{FirstPlace}
 use Rattle.layout.proofs.Forms.{read-from, read-none}
-use Rattle.kinds.specs.Shape.{cellsIn}
 
 -- whether a place is in the queue
 abbrev inQueue : Place → Bool

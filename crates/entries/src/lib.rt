@@ -8,9 +8,9 @@ ghost use Rattle.numbers.specs.Ranges.{goodKey};
 ghost use Rattle.rules.specs.Store.{meant, Numbers};
 ghost use Rattle.rules.specs.Check.{waitsIn, entryOk, queueOk, marksOk};
 ghost use Rattle.rules.specs.Step.{isMarked};
+ghost use Rattle.layout.specs.Memory.{cellsIn, entriesIn, pairsIn, homesOf};
 ghost use Rattle.layout.specs.Forms.{entryForm, pairForm, readMany};
-ghost use Rattle.kinds.specs.Shape.{cellsIn, entriesIn, pairsIn};
-ghost use Rattle.steps.specs.Shape.{homesOf, TablesReady};
+ghost use Rattle.steps.specs.Shape.{TablesReady};
 ghost use Rattle.entries.specs.Zeros.{allZero};
 use numbers::Functions;
 

@@ -18,10 +18,9 @@ use Rattle.rules.specs.Calls.{answer, find}
 use Rattle.layout.specs.Forms.{entryForm}
 use Rattle.layout.specs.Places.{FirstPlace}
 use Rattle.layout.proofs.Forms.{read-at}
-use Rattle.kinds.specs.Shape.{entriesIn}
 use Rattle.steps.specs.Shape.{TablesReady}
 use Rattle.steps.proofs.InTable.{cell-read}
-use Rattle.layout.specs.Memory.{Lent}
+use Rattle.layout.specs.Memory.{Lent, entriesIn}
 use Rattle.numbers.specs.declared.Rooms.{Rooms}
 use Rattle.finding.specs.declared.Place.{Place}
 use Rattle.finding.specs.declared.Seen.{Seen}

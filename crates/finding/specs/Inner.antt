@@ -11,9 +11,7 @@ use Rattle.rules.specs.Store.{table-0, table-1, Store, Numbers}
 use Rattle.rules.specs.Search.{Place as RulesPlace, inTable, waitingAt, nowhere, searchQueue, search}
 use Rattle.rules.specs.Calls.{Answer as RulesAnswer, answer, Outcome as RulesOutcome}
 use Rattle.rules.specs.Keeps.{isAccepted}
-use Rattle.layout.specs.Memory.{Lent, lent, wordsIn}
-use Rattle.kinds.specs.Shape.{entriesIn}
-use Rattle.steps.specs.Shape.{homesOf, storeIn}
+use Rattle.layout.specs.Memory.{Lent, lent, wordsIn, entriesIn, homesOf, storeIn}
 use Rattle.numbers.specs.declared.Rooms.{Rooms}
 use Rattle.finding.specs.declared.Done.{Done}
 use Rattle.finding.specs.declared.Place.{Place}

@@ -4,18 +4,10 @@ use mathlib.Core.Path.{_≡_}
 use mathlib.Core.List.{List, [], _∷_, _++_}
 use lib.ListN.{length, getD, drop}
 use lib.Seq.{sets}
-use Rattle.rules.specs.Store.{Cell, Entry, Pair}
-use Rattle.layout.specs.Forms.{cellForm, entryForm, pairForm, readMany, packed}
+use Rattle.rules.specs.Store.{Entry, Pair}
+use Rattle.layout.specs.Memory.{entriesIn, pairsIn}
+use Rattle.layout.specs.Forms.{entryForm, pairForm, packed}
 use Rattle.kinds.specs.declared.Turn.{Turn}
-
-abbrev pub cellsIn : ℕ → List ℕ → List Cell
-cellsIn r t = readMany cellForm r t
-
-abbrev pub entriesIn : ℕ → List ℕ → List Entry
-entriesIn ql q = readMany entryForm ql q
-
-abbrev pub pairsIn : ℕ → List ℕ → List Pair
-pairsIn dl d = readMany pairForm dl d
 
 abbrev pub entry : ℕ → ℕ → ℕ → Entry
 entry k v s = record { key = k; value = v; side = s }

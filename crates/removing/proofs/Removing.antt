@@ -15,10 +15,9 @@ use Rattle.rules.specs.Calls.{answer, refused, accepted, refuseIf, orRefuse7, d
 use Rattle.layout.specs.Forms.{cellForm, entryForm, pairForm, writeMany, packed}
 use Rattle.layout.proofs.Forms.{cell-lawful, entry-lawful, length-readMany, read-at, write-all, write-set}
 use Rattle.layout.proofs.Packed.{packed-close}
-use Rattle.kinds.specs.Shape.{cellsIn, entriesIn, pairsIn}
 use Rattle.steps.proofs.InTable.{cell-read}
 use Rattle.numbers.specs.declared.Functions.{Functions}
-use Rattle.layout.specs.Memory.{Lent, lent, wordsIn, Tidied}
+use Rattle.layout.specs.Memory.{Lent, lent, wordsIn, Tidied, cellsIn, entriesIn, pairsIn}
 use Rattle.numbers.specs.declared.Rooms.{Rooms}
 use Rattle.finding.specs.declared.Place.the-variants.{Table0, Table1, Waiting, Nowhere}
 use Rattle.finding.specs.Inner.{numbersOf, storeOf, withLens, answered, Outcome, outcome, leaves, RoomsFit, FitIn, Located, Told}

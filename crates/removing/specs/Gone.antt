@@ -6,8 +6,7 @@ use lib.ListN.{length, getD}
 use lib.Seq.{sets}
 use Rattle.rules.specs.Calls.{answer, dropAt}
 use Rattle.layout.specs.Forms.{entryForm, pairForm, packed}
-use Rattle.layout.specs.Memory.{Tidied}
-use Rattle.kinds.specs.Shape.{entriesIn, pairsIn}
+use Rattle.layout.specs.Memory.{Tidied, entriesIn, pairsIn}
 use Rattle.numbers.specs.declared.Rooms.{Rooms}
 use Rattle.finding.specs.Inner.{answered, withLens, Told}
 

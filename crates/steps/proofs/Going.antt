@@ -10,13 +10,14 @@ use Rattle.rules.specs.Step.{step}
 use Rattle.rules.specs.Run.{Ran, ran, asMove, counted, run}
 use Rattle.rules.proofs.Steps.{by-kind, by-front}
 use Rattle.rules.proofs.Runs.{joinRuns, asMove-one, run-idle, run-more}
+use Rattle.layout.specs.Memory.{entriesIn, pairsIn, homesOf, storeIn}
 use Rattle.numbers.specs.declared.Functions.{Functions}
 use Rattle.layout.specs.Forms.{entryForm, pairForm, readMany, packed}
 use Rattle.layout.proofs.Forms.{entry-lawful, pair-lawful, length-readMany}
 use Rattle.layout.proofs.Packed.{length-packed, read-packed}
 use Rattle.kinds.specs.declared.Turn.{Turn}
-use Rattle.kinds.specs.Shape.{Ready, entriesIn, pairsIn}
-use Rattle.steps.specs.Shape.{TablesReady, StepsWith, Holds, Follows, Runs, homesOf, storeIn}
+use Rattle.kinds.specs.Shape.{Ready}
+use Rattle.steps.specs.Shape.{TablesReady, StepsWith, Holds, Follows, Runs}
 
 -- no step makes the queue longer, and the detector stays within its room
 module _ (n : Numbers) (s : Store) where

@@ -8,12 +8,13 @@ use borrow.Author.Tests.{eq-eqb, ne-eqb}
 use lib.ListN.{getD, drop}
 use Rattle.rules.specs.Store.{Table, table-0, table-1, meant, Cell, Entry, Tables, Store, Numbers}
 use Rattle.rules.specs.Step.{Stepped, stepAt, stepFrom, step}
+use Rattle.layout.specs.Memory.{cellsIn, entriesIn, homesOf, storeIn}
 use Rattle.layout.specs.Forms.{readMany}
 use Rattle.numbers.specs.declared.Functions.{Functions}
 use Rattle.numbers.specs.Homes.{home0, home1}
 use Rattle.kinds.specs.declared.Turn.{Turn}
-use Rattle.kinds.specs.Shape.{cellsIn, entriesIn, entry}
-use Rattle.steps.specs.Shape.{After, homesOf, StepsWith, storeIn, Follows}
+use Rattle.kinds.specs.Shape.{entry}
+use Rattle.steps.specs.Shape.{After, StepsWith, Follows}
 
 -- the front entry and the rest
 front : (ql : ℕ) (q : List ℕ) → 0 < ql → entriesIn ql q ≡ entry (getD q 0 0) (getD q 1 0) (getD q 2 0) ∷ drop 1 (entriesIn ql q)

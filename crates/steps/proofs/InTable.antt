@@ -13,11 +13,12 @@ use lib.Seq.{sets, getD-drop}
 use Rattle.rules.specs.Store.{Table, table-0, table-1, other, meant, sideOf, Cell, freeCell, Entry, cellAt, putCell, Store}
 use Rattle.rules.specs.Step.{taken, isMarked, Stepped, stepAt}
 use Rattle.rules.proofs.Steps.{by-kind}
+use Rattle.layout.specs.Memory.{cellsIn, entriesIn, pairsIn}
 use Rattle.layout.specs.Forms.{cellForm, entryForm, pairForm, packed}
 use Rattle.layout.proofs.Forms.{cell-lawful, entry-lawful, length-readMany, read-at, read-set}
 use Rattle.layout.proofs.Ready.{rest-count}
 use Rattle.kinds.specs.declared.Turn.{Turn}
-use Rattle.kinds.specs.Shape.{cellsIn, entriesIn, pairsIn, entry, pair, turn, Ready, Landed, Aside, Swapped}
+use Rattle.kinds.specs.Shape.{entry, pair, turn, Ready, Landed, Aside, Swapped}
 use Rattle.steps.specs.Shape.{withTable, tablesWith, After}
 
 -- a cell of the table in hand

@@ -6,11 +6,11 @@ use lib.ListN.{length}
 use Rattle.rules.specs.Store.{Table, table-0, table-1, Cell, Tables, Store, store, Numbers}
 use Rattle.rules.specs.Step.{Stepped}
 use Rattle.rules.specs.Run.{Ran}
+use Rattle.layout.specs.Memory.{cellsIn, entriesIn, pairsIn, homesOf}
 use Rattle.numbers.specs.declared.Functions.{Functions}
-use Rattle.numbers.specs.Homes.{home0, home1}
 use Rattle.layout.specs.Forms.{entryForm, pairForm, packed}
 use Rattle.kinds.specs.declared.Turn.{Turn}
-use Rattle.kinds.specs.Shape.{cellsIn, entriesIn, pairsIn, turn}
+use Rattle.kinds.specs.Shape.{turn}
 use Rattle.steps.specs.declared.Ended.{Ended}
 
 -- one table's cells beside the other's
@@ -36,19 +36,10 @@ pub record TablesReady (r : ℕ) (t0 t1 : List ℕ) : Type 0 where
   pub first : length t0 ≡ 2 * r
   pub second : length t1 ≡ 2 * r
 
--- the home functions, by table
-abbrev pub homesOf : Functions → Table → ℕ → ℕ
-homesOf f table-0 x = home0 f x
-homesOf f table-1 x = home1 f x
-
 -- numbers with these functions and this detector room
 pub record StepsWith (n : Numbers) (f : Functions) (room : ℕ) : Type 0 where
   pub detector-room : n .D ≡ room
   pub homes : n .home ≡ homesOf f
-
--- the store that words hold
-abbrev pub storeIn : ℕ → ℕ → ℕ → List ℕ → List ℕ → List ℕ → List ℕ → Store
-storeIn r ql dl t0 t1 q d = store (record { table0 = cellsIn r t0; table1 = cellsIn r t1 }) (entriesIn ql q) (pairsIn dl d)
 
 -- the words hold this store, with lengths ql and dl
 pub record Holds (r nq nd : ℕ) (s : Store) (t0 t1 q d : List ℕ) (ql dl : ℕ) : Type 0 where

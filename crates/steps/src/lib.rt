@@ -6,8 +6,9 @@ ghost use lib.ListN.{length, getD, drop};
 ghost use Rattle.rules.specs.Store.{meant, Cell, Numbers};
 ghost use Rattle.rules.specs.Step.{stepAt, step};
 ghost use Rattle.rules.specs.Run.{asMove, run};
-ghost use Rattle.kinds.specs.Shape.{Ready, entriesIn, entry};
-ghost use Rattle.steps.specs.Shape.{After, TablesReady, StepsWith, Follows, Runs, storeIn, tablesWith};
+ghost use Rattle.layout.specs.Memory.{entriesIn, storeIn};
+ghost use Rattle.kinds.specs.Shape.{Ready, entry};
+ghost use Rattle.steps.specs.Shape.{After, TablesReady, StepsWith, Follows, Runs, tablesWith};
 use kinds::Turn;
 use numbers::Functions;
 

@@ -16,12 +16,11 @@ use Rattle.rules.proofs.Check.{check-is-exact as rules-check-is-exact}
 use Rattle.layout.specs.Forms.{cellForm, entryForm, pairForm}
 use Rattle.layout.proofs.Forms.{length-readMany}
 use Rattle.numbers.specs.declared.Functions.{Functions}
-use Rattle.steps.specs.Shape.{homesOf}
 use Rattle.entries.specs.Zeros.{allZero}
 use Rattle.checks.specs.Sound.{isSoundIn}
 use Rattle.store.specs.declared.Control.{Control}
 use Rattle.store.specs.declared.Answer.{Answer}
-use Rattle.layout.specs.Memory.{Lent}
+use Rattle.layout.specs.Memory.{Lent, homesOf}
 use Rattle.store.specs.Memory.{functionsOf, numbersOf, storeOf}
 use Rattle.store.specs.Refusals.{inRange, sizedIn, lengthsWithin, Outcome, outcome, answered, keeps, unlessFault}
 use Rattle.store.specs.Calls.{checking, checked}

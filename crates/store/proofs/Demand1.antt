@@ -5,7 +5,6 @@ use mathlib.Core.Logic.{_≢_}
 use mathlib.Core.Bool.{Bool, true, false, cond, not}
 use native.Mathlib.Omega.{arith}
 use borrow.Author.Tests.{eqb-true}
-use lib.ListN.{length}
 use Rattle.rules.specs.Store.{fresh}
 use Rattle.rules.specs.Calls.{Answer as RulesAnswer, answer, find, define, change, remove, settle, Call, Find, Define, Change, Remove, Settle, does as rulesDo}
 use Rattle.rules.specs.Keeps.{isAccepted}

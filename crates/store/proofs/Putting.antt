@@ -12,9 +12,8 @@ use Rattle.rules.specs.Search.{Place, inTable, waitingAt, nowhere, noEntry, ent
 use Rattle.rules.specs.Calls.{withEntryValue, withValue}
 use Rattle.layout.specs.Forms.{cellForm, entryForm}
 use Rattle.layout.proofs.Forms.{cell-lawful, entry-lawful, read-at, read-set}
-use Rattle.kinds.specs.Shape.{cellsIn, entriesIn}
 use Rattle.store.specs.declared.Control.{Control}
-use Rattle.layout.specs.Memory.{Lent}
+use Rattle.layout.specs.Memory.{Lent, cellsIn, entriesIn}
 use Rattle.store.specs.Memory.{roomsOf, functionsOf, storeOf}
 use Rattle.changing.specs.Change.{putValue}
 use Rattle.store.specs.Refusals.{sizedIn}

@@ -2,7 +2,6 @@
 -- nothing.
 use Prim.Native.Nat.{ℕ}
 use mathlib.Core.Bool.{cond, not}
-use lib.ListN.{length}
 use Rattle.rules.specs.Store.{fresh}
 use Rattle.rules.specs.Search.{search}
 use Rattle.rules.specs.Calls.{Answer as RulesAnswer, answer, Outcome as RulesOutcome, find, define, change, remove, settle, Call, Find, Define, Change, Remove, Settle}

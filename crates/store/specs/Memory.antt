@@ -1,12 +1,11 @@
--- Document 01, "Memory": how a control record and lent words stand for a store of the rules. Three definitions go between the two, and nothing else
--- does: `storeOf`, `wordsOf`, `recordOf`. Assumes nothing.
+-- Document 01, "Memory": how a control record and lent words stand for numbers and a store of the rules (`numbersOf`, `storeOf`), and which words and record
+-- a store has (`wordsOf`, `recordOf`). Assumes nothing.
 use Prim.Native.Nat.{ℕ, _*_}
 use lib.ListN.{length}
 use Rattle.rules.specs.Store.{Store, Numbers}
 use Rattle.numbers.specs.declared.Functions.{Functions}
-use Rattle.layout.specs.Memory.{Lent, wordsIn}
+use Rattle.layout.specs.Memory.{Lent, wordsIn, homesOf, storeIn}
 use Rattle.numbers.specs.declared.Rooms.{Rooms}
-use Rattle.steps.specs.Shape.{homesOf, storeIn}
 use Rattle.store.specs.declared.Control.{Control}
 
 -- the home functions of a record

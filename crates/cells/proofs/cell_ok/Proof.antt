@@ -2,10 +2,10 @@
 use mathlib.Core.Path.{sym, _∙_}
 use borrow.Author.Needs.{needs}
 use borrow.Author.Tests.{not-true, not-false}
-use Rattle.kinds.specs.Shape.{cellsIn}
 use Rattle.cells.proofs.Tables.{free-cell, bad-key, not-home, at-home}
 use Rattle.cells.proofs.cell_ok.Statement.{statement}
 use Rattle.cells.proofs.cell_ok.Tie as tie
+use Rattle.layout.specs.Memory.{cellsIn}
 
 mul-k : tie.Need-mul-k
 mul-k c = search needs

@@ -7,8 +7,8 @@ use borrow.Author.Needs.{needs}
 use borrow.Author.Tests.{not-true, not-false}
 use Rattle.rules.specs.Store.{meant, Numbers}
 use Rattle.rules.specs.Check.{cellsOk}
-use Rattle.kinds.specs.Shape.{cellsIn}
-use Rattle.steps.specs.Shape.{withTable, homesOf}
+use Rattle.layout.specs.Memory.{cellsIn, homesOf}
+use Rattle.steps.specs.Shape.{withTable}
 use Rattle.cells.proofs.Tables.{cellsFrom, cell-bad, cell-good, cells-end}
 use Rattle.cells.proofs.cells_ok.Statement.{statement}
 use Rattle.cells.proofs.cells_ok.Tie as tie

@@ -2,10 +2,10 @@
 use mathlib.Core.Path.{sym, _∙_}
 use borrow.Author.Needs.{needs}
 use borrow.Author.Tests.{not-true, not-false}
-use Rattle.kinds.specs.Shape.{cellsIn}
 use Rattle.entries.proofs.Queue.{bad-key, bad-side, in-first, in-second, in-no-cell}
 use Rattle.entries.proofs.entry_ok.Statement.{statement}
 use Rattle.entries.proofs.entry_ok.Tie as tie
+use Rattle.layout.specs.Memory.{cellsIn}
 
 mul-x : tie.Need-mul-x
 mul-x c = search needs

@@ -6,7 +6,7 @@ use native.Mathlib.Nat.{sub-zero}
 use borrow.Author.Needs.{needs}
 use borrow.Author.Tests.{not-true, not-false}
 use Rattle.rules.specs.Check.{marksOk}
-use Rattle.kinds.specs.Shape.{pairsIn}
+use Rattle.layout.specs.Memory.{pairsIn}
 use Rattle.entries.proofs.Queue.{pairsFrom, pair-bad, pair-good, marks-end}
 use Rattle.entries.proofs.marks_ok.Statement.{statement}
 use Rattle.entries.proofs.marks_ok.Tie as tie

@@ -7,8 +7,8 @@ use borrow.Author.Needs.{needs}
 use borrow.Author.Tests.{not-true, not-false}
 use Rattle.rules.specs.Store.{table-0, Numbers}
 use Rattle.rules.specs.Check.{queueOk}
-use Rattle.kinds.specs.Shape.{cellsIn, entriesIn}
-use Rattle.steps.specs.Shape.{withTable, homesOf}
+use Rattle.layout.specs.Memory.{cellsIn, entriesIn, homesOf}
+use Rattle.steps.specs.Shape.{withTable}
 use Rattle.entries.proofs.Queue.{entriesFrom, entry-bad, entry-good, queue-end}
 use Rattle.entries.proofs.queue_ok.Statement.{statement}
 use Rattle.entries.proofs.queue_ok.Tie as tie

@@ -4,11 +4,11 @@ use Prim.Native.Nat.{ℕ, _<_}
 use native.Mathlib.Omega.{arith}
 use lib.ListN.{length}
 use Rattle.numbers.proofs.Home.{home0-in-table, home1-in-table}
-use Rattle.kinds.specs.Shape.{cellsIn}
 use Rattle.steps.proofs.InStore.{first-table, second-table}
 use borrow.Author.Needs.{needs}
 use Rattle.steps.proofs.one_step.Statement.{statement}
 use Rattle.steps.proofs.one_step.Tie as tie
+use Rattle.layout.specs.Memory.{cellsIn}
 
 slice-read-y : tie.Need-slice-read-y
 slice-read-y c = search needs
