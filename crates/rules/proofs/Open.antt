@@ -45,7 +45,7 @@ fresh-sound n = parts n (fresh n) (unfold fresh in record {
     free table-1 i = unfold fresh in free-cells (n .r) i
 
 pub open-is-sound : OpenIsSound
-open-is-sound n range = record { in-range = range; contents = fresh-sound n }
+open-is-sound = fresh-sound
 
 pub fresh-lookup : (n : Numbers) (k : ℕ) → IsGood k → lookup n k (fresh n) ≡ none
 fresh-lookup n k good = lookup-absent n (fresh n) (fresh-sound n) k good (λ m. not-nil (subst (λ l. k ∈ l) (fresh-present n) m))

@@ -9,7 +9,7 @@ use Rattle.rules.specs.Store.{Store, Numbers, IntoCells, fresh}
 use Rattle.rules.specs.Step.{step}
 use Rattle.rules.specs.Search.{lookup}
 use Rattle.rules.specs.Calls.{Answer, Call, Find, Define, Change, Remove, Settle, does}
-use Rattle.rules.specs.Sound.{IsGood, InRange, SoundContents, Sound}
+use Rattle.rules.specs.Sound.{IsGood, SoundContents}
 
 -- "Accepted is 0"
 abbrev pub isAccepted : Answer → Bool
@@ -26,7 +26,7 @@ afterCall k (Settle budget) a before = before
 
 -- "Open gives a sound store"
 abbrev pub OpenIsSound : Type 0
-OpenIsSound = (n : Numbers) → InRange n → Sound n (fresh n)
+OpenIsSound = (n : Numbers) → SoundContents n (fresh n)
 
 abbrev pub StepKeepsSound : Type 0
 StepKeepsSound = (n : Numbers) → IntoCells n → (s : Store) → SoundContents n s → SoundContents n (step n s .store)

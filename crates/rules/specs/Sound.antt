@@ -7,15 +7,8 @@ use mathlib.Core.List.{List, [], _∷_, _++_, map}
 use lib.Dec.{eqb}
 use lib.ListN.{length}
 use Rattle.lists.specs.Lists.{_∈_, NoDup}
-use Rattle.numbers.specs.Ranges.{goodKey, cellsInRange, queueRoomInRange, detectorRoomInRange, stepLimitInRange}
+use Rattle.numbers.specs.Ranges.{goodKey}
 use Rattle.rules.specs.Store.{Table, Cell, Entry, Pair, tableOf, cellAt, Store, Numbers}
-
--- the record's own numbers are in range; those of its home functions are the layer's that makes these functions
-pub record InRange (n : Numbers) : Type 0 where
-  pub cells : cellsInRange (n .r) ≡ true
-  pub queue-room : queueRoomInRange (n .Q) ≡ true
-  pub detector-room : detectorRoomInRange (n .D) ≡ true
-  pub step-limit : stepLimitInRange (n .L) ≡ true
 
 abbrev pub IsGood : ℕ → Type 0
 IsGood key = goodKey key ≡ true
@@ -53,8 +46,3 @@ pub record SoundContents (n : Numbers) (s : Store) : Type 0 where
   pub pair-side : (p : Pair) → p ∈ s .marked → IsSide (p .side)
   pub pairs-differ : NoDup (s .marked)
   pub no-key-twice : NoDup (present s)
-
--- "A store is sound if its record is in range" and the rest holds
-pub record Sound (n : Numbers) (s : Store) : Type 0 where
-  pub in-range : InRange n
-  pub contents : SoundContents n s

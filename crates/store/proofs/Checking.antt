@@ -29,7 +29,6 @@ use Rattle.faults.proofs.Accepted.{both, accepted-tests}
 use Rattle.store.specs.Sound.{SoundIn, CheckKeepsSound, CheckIsExact}
 use Rattle.store.proofs.Faults.{no-fault, faultIn, goes-on, keeps-all}
 use Rattle.store.proofs.Demand1.{check-changes-nothing}
-use Rattle.store.proofs.Written.{own-ranges}
 use Rattle.store.proofs.Simulation.{no-faults, contents}
 
 -- the test of the words
@@ -91,7 +90,7 @@ module _ (c : Control) (m : Lent) where
       record {
         in-range = t .0;
         buffers = t .1;
-        sound = record { in-range = own-ranges c (t .0); contents = rules-check-is-exact (numbersOf c) (storeOf c m) (fitting e) .0 (q .0) };
+        contents = rules-check-is-exact (numbersOf c) (storeOf c m) (fitting e) .0 (q .0);
         queue-zeros = past _ (m .queue) (q .1);
         detector-zeros = past _ (m .detector) (d .1);
       }

@@ -58,7 +58,7 @@ module _ (c : Control) (m : Lent) (sound : SoundIn c m) where
   into table-1 x = home1-in-table (functionsOf c) x (omega (arith, ranges (functionsOf c) (roomsOf c) (sound .in-range) .some))
 
   pub contents : SoundContents (numbersOf c) (storeOf c m)
-  contents = sound .sound .contents
+  contents = sound .contents
 
   queue-fits : c .«queue_len» ≤ c .«queue_room»
   queue-fits = omega (arith, contents .queue-fits, length-readMany entryForm (c .«queue_len») (m .queue))
@@ -83,7 +83,7 @@ module _ (c : Control) (m : Lent) (sound : SoundIn c m) where
       go : (u : RulesOutcome) → SoundContents (numbersOf c) (u .store) → (u .answer .number ≢ 0 → u .store ≡ storeOf c m) → (b : Bool) → isAccepted (u .answer) ≡ b
           → Simulates c (cond b (outcome (wordsOf c (u .store)) (answered (recordOf c (u .store)) (u .answer))) (keeps c m (u .answer))) u
       go u ok same true e = record {
-        sound = written-sound c (u .store) ok (sound .in-range) (sound .sound .in-range);
+        sound = written-sound c (u .store) ok (sound .in-range);
         numbers = unfold recordOf in refl;
         store = reads-back c (u .store) ok;
         answer = refl;
@@ -105,7 +105,7 @@ module _ (c : Control) (m : Lent) (sound : SoundIn c m) where
         sound = record {
           in-range = sound .in-range;
           buffers = put-sized c m v p (sound .buffers);
-          sound = record { in-range = sound .sound .in-range; contents = subst (SoundContents (numbersOf c)) (sym e) ok };
+          contents = subst (SoundContents (numbersOf c)) (sym e) ok;
           queue-zeros = λ i l. put-behind c m v p within i l ∙ sound .queue-zeros i l;
           detector-zeros = λ i l. ap (λ d. getD d i 0) (put-detector c m v p) ∙ sound .detector-zeros i l;
         };

@@ -9,9 +9,8 @@ use borrow.Author.Tests.{eq-eqb}
 use lib.ListN.{length, getD, replicate}
 use Rattle.words.specs.Words.{padTo}
 use Rattle.rules.specs.Store.{table-0, table-1, Cell, Store, store, fresh}
-use Rattle.rules.specs.Sound.{InRange, SoundContents}
+use Rattle.rules.specs.Sound.{SoundContents}
 use Rattle.rules.proofs.Open.{fresh-sound}
-use Rattle.numbers.specs.Ranges.{cellsInRange, queueRoomInRange, detectorRoomInRange, stepLimitInRange, multiplierInRange, addendInRange}
 use Rattle.layout.specs.Forms.{Form, cellForm, entryForm, pairForm, readMany, writeMany, packed}
 use Rattle.layout.proofs.Forms.{Lawful, cell-lawful, entry-lawful, pair-lawful, length-writeMany, read-all}
 use Rattle.layout.proofs.Packed.{length-packed, read-packed}
@@ -22,7 +21,6 @@ use Rattle.store.specs.Refusals.{inRange, sizedIn}
 use Rattle.store.specs.Sound.{SoundIn, OpenIsSound}
 use Rattle.store.proofs.Faults.{sized}
 use Rattle.faults.specs.Faults.{numbersInRange, lengthsFit}
-use Rattle.faults.proofs.Accepted.{both}
 use Rattle.store.proofs.Demand1.{by-open}
 
 -- past the words in use there are zeros
@@ -65,29 +63,16 @@ module _ (c : Control) (s : Store) (contents : SoundContents (numbersOf c) s) wh
       (length-packed pairForm pair-lawful (2 * c .«detector_room») (s .marked) (omega (arith, contents .detector-fits)))
 
   -- the words and the record of a sound store are sound
-  pub written-sound : inRange c ≡ true → InRange (numbersOf c) → SoundIn (recordOf c s) (wordsOf c s)
+  pub written-sound : inRange c ≡ true → SoundIn (recordOf c s) (wordsOf c s)
   unfolding wordsIn recordOf
-  written-sound ranges range = record {
+  written-sound ranges = record {
     in-range = unfold numbersInRange in ranges;
     buffers = written-sized;
-    sound = record { in-range = range; contents = subst (SoundContents (numbersOf c)) (sym reads-back) contents };
+    contents = subst (SoundContents (numbersOf c)) (sym reads-back) contents;
     queue-zeros = packed-zeros entryForm entry-lawful (3 * c .«queue_room») (s .waiting);
     detector-zeros = packed-zeros pairForm pair-lawful (2 * c .«detector_room») (s .marked);
   }
 
--- the record's own numbers, each in its range
-pub own-ranges : (c : Control) → inRange c ≡ true → InRange (numbersOf c)
-unfolding numbersInRange
-own-ranges c h =
-    let h4 = (both _ (addendInRange (c .b1)) h) .0 in
-    let h3 = (both _ (multiplierInRange (c .a1)) h4) .0 in
-    let h2 = (both _ (addendInRange (c .b0)) h3) .0 in
-    let h1 = (both _ (multiplierInRange (c .a0)) h2) .0 in
-    let l = both _ (stepLimitInRange (c .«step_limit»)) h1 in
-    let d = both _ (detectorRoomInRange (c .«detector_room»)) (l .0) in
-    let q = both (cellsInRange (c .r)) (queueRoomInRange (c .«queue_room»)) (d .0) in
-    record { cells = q .0; queue-room = q .1; detector-room = d .1; step-limit = l .1 }
-
 pub open-is-sound : OpenIsSound
 open-is-sound c m = by-open c m (λ o. o .answer .number ≡ 0 → SoundIn (o .answer .control) (o .lent)) (λ e. absurd (omega arith)) (λ e. absurd (omega arith))
-    (λ ranges fit e. unfold recordOf fresh in written-sound c (fresh (numbersOf c)) (fresh-sound (numbersOf c)) ranges (own-ranges c ranges))
+    (λ ranges fit e. unfold recordOf fresh in written-sound c (fresh (numbersOf c)) (fresh-sound (numbersOf c)) ranges)

@@ -5,7 +5,7 @@ use mathlib.Core.Path.{_≡_}
 use mathlib.Core.Logic.{_↔_}
 use mathlib.Core.Bool.{true}
 use lib.ListN.{getD}
-use Rattle.rules.specs.Sound.{Sound}
+use Rattle.rules.specs.Sound.{SoundContents}
 use Rattle.rules.specs.Calls.{Call}
 use Rattle.store.specs.declared.Control.{Control}
 use Rattle.layout.specs.Memory.{Lent}
@@ -17,8 +17,8 @@ pub record SoundIn (c : Control) (m : Lent) : Type 0 where
   -- "its record is in range", the numbers of its functions too
   pub in-range : inRange c ≡ true
   pub buffers : sizedIn c m ≡ true
-  -- what the rules call sound, of the store that record and words stand for
-  pub sound : Sound (numbersOf c) (storeOf c m)
+  -- the parts of the paragraph that the rules know, of the store that record and words stand for
+  pub contents : SoundContents (numbersOf c) (storeOf c m)
   -- "places past the lengths are zero"
   pub queue-zeros : (i : ℕ) → 3 * c .«queue_len» ≤ i → getD (m .queue) i 0 ≡ 0
   pub detector-zeros : (i : ℕ) → 2 * c .«detector_len» ≤ i → getD (m .detector) i 0 ≡ 0
