@@ -4,26 +4,23 @@
 
 namespace {
 
+#define MAP_CALLS(peer)                                                                                                \
+    static constexpr auto make = peer##_new;                                                                           \
+    static constexpr auto free = peer##_free;                                                                          \
+    static constexpr auto define_all = peer##_define_all;                                                              \
+    static constexpr auto find_all = peer##_find_all;                                                                  \
+    static constexpr auto change_all = peer##_change_all;                                                              \
+    static constexpr auto renew_all = peer##_renew_all;                                                                \
+    static constexpr auto define_one = peer##_define_one;
+
 struct Uthash {
     static constexpr auto name = "uthash";
-    static constexpr auto make = ut_map_new;
-    static constexpr auto free = ut_map_free;
-    static constexpr auto define_all = ut_map_define_all;
-    static constexpr auto find_all = ut_map_find_all;
-    static constexpr auto change_all = ut_map_change_all;
-    static constexpr auto renew_all = ut_map_renew_all;
-    static constexpr auto define_one = ut_map_define_one;
+    MAP_CALLS(ut_map)
 };
 
 struct RustMap {
     static constexpr auto name = "Rust HashMap";
-    static constexpr auto make = rust_map_new;
-    static constexpr auto free = rust_map_free;
-    static constexpr auto define_all = rust_map_define_all;
-    static constexpr auto find_all = rust_map_find_all;
-    static constexpr auto change_all = rust_map_change_all;
-    static constexpr auto renew_all = rust_map_renew_all;
-    static constexpr auto define_one = rust_map_define_one;
+    MAP_CALLS(rust_map)
 };
 
 template <class Calls> class Foreign : public Contender {

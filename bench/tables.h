@@ -5,26 +5,23 @@
 #include "kt.h"
 #include "limit.h"
 
+#define TABLE_CALLS(table)                                                                                             \
+    static constexpr auto open = table##_open;                                                                         \
+    static constexpr auto find = table##_find;                                                                         \
+    static constexpr auto define = table##_define;                                                                     \
+    static constexpr auto change = table##_change;                                                                     \
+    static constexpr auto remove = table##_remove;                                                                     \
+    static constexpr auto settle = table##_settle;                                                                     \
+    static constexpr auto check = table##_check;
+
 struct StoreCalls {
     static constexpr auto name = "this store";
-    static constexpr auto open = kt_open;
-    static constexpr auto find = kt_find;
-    static constexpr auto define = kt_define;
-    static constexpr auto change = kt_change;
-    static constexpr auto remove = kt_remove;
-    static constexpr auto settle = kt_settle;
-    static constexpr auto check = kt_check;
+    TABLE_CALLS(kt)
 };
 
 struct LimitCalls {
     static constexpr auto name = "the limit";
-    static constexpr auto open = limit_open;
-    static constexpr auto find = limit_find;
-    static constexpr auto define = limit_define;
-    static constexpr auto change = limit_change;
-    static constexpr auto remove = limit_remove;
-    static constexpr auto settle = limit_settle;
-    static constexpr auto check = limit_check;
+    TABLE_CALLS(limit)
 };
 
 #endif
