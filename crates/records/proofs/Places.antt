@@ -6,7 +6,7 @@ use mathlib.Core.List.{List}
 use native.Mathlib.Omega.{arith}
 use lib.ListN.{length, getD}
 use borrow.Author.Tests.{eq-eqb, ne-eqb, le-leb, lt-leb}
-use Rattle.records.specs.Word.{wordAt}
+use Rattle.little_endian.specs.Word.{wordAt}
 use Rattle.records.specs.Record.{fields, fieldsAt, ifGood, orRefuse10, refused, ended, recordAt, readAt}
 use Rattle.records.specs.Inner.{said}
 use Rattle.records.specs.declared.Meaning.{Meaning}

@@ -1,16 +1,13 @@
 -- The bytes of a record, and the claim that reading them gives the command and the next place. Assumes nothing.
-use Prim.Native.Nat.{ℕ, _+_, _/_, _%_, _^_, _<_}
+use Prim.Native.Nat.{ℕ, _+_, _^_, _<_}
 use mathlib.Core.Path.{_≡_}
-use mathlib.Core.List.{List, [], _∷_, _++_}
+use mathlib.Core.List.{List, _∷_, _++_}
 use lib.ListN.{length}
+use Rattle.little_endian.specs.Word.{bytesOfWord}
 use Rattle.records.specs.Record.{Fields, readAt}
 use Rattle.records.specs.Told.{fieldsOf, told}
 use Rattle.records.specs.declared.Command.{Command}
 use Rattle.records.specs.declared.Reading.the-variants.{Good}
-
--- "little-endian": the lowest byte first
-abbrev pub bytesOfWord : ℕ → List ℕ
-bytesOfWord w = w % 256 ∷ w / 256 % 256 ∷ w / 65536 % 256 ∷ w / 16777216 % 256 ∷ []
 
 -- "Ten bytes: a mark of two ASCII letters in the order written here, a key word, a value word"
 abbrev pub bytesOf : Fields → List ℕ

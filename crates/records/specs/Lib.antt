@@ -1,4 +1,3 @@
-pub mod Word
 pub mod Record
 pub mod Told
 pub mod Inner

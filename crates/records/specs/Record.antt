@@ -5,7 +5,7 @@ use mathlib.Core.List.{List}
 use mathlib.Core.Option.{Option, none, some}
 use lib.Dec.{eqb, leb}
 use lib.ListN.{length, getD}
-use Rattle.records.specs.Word.{wordAt}
+use Rattle.little_endian.specs.Word.{wordAt}
 
 -- the ASCII letters of the marks
 abbrev pub letterC : ℕ

@@ -2,7 +2,6 @@
 ghost use mathlib.Core.Path.{_≡_};
 ghost use Prim.Native.Nat.{_+_, _≤_};
 ghost use lib.ListN.{length};
-ghost use Rattle.records.specs.Word.{littleEndian, wordAt};
 ghost use Rattle.records.specs.Record.{fields, ifGood, recordAt, readAt};
 ghost use Rattle.records.specs.Told.{fieldsOf, headingOf, told};
 ghost use Rattle.records.specs.Inner.{said, ifZero};
@@ -34,21 +33,6 @@ pub enum Reading {
 enum Meaning {
     Says(Command),
     Nothing,
-}
-
-// The word of four bytes, the lowest first.
-fn word_of(b0: u8, b1: u8, b2: u8, b3: u8) -> u32
-    ensures { λ w. ⌜ w ≡ littleEndian b0 b1 b2 b3 ⌝ }
-{
-    (b0 as u32) + 256 * (b1 as u32) + 65536 * (b2 as u32) + 16777216 * (b3 as u32)
-}
-
-// The word at a place.
-fn word_at(bytes: &[u8], at: usize) -> u32
-    requires { ⌜ at + 4 ≤ length (now bytes) ⌝ }
-    ensures { λ w. ⌜ w ≡ wordAt (now (bytes .entry)) at ⌝ }
-{
-    word_of(bytes[at], bytes[at + 1], bytes[at + 2], bytes[at + 3])
 }
 
 // A command without a value word: its record's value word is spare, and has to be 0.
@@ -89,8 +73,8 @@ fn record_at(bytes: &[u8], place: usize) -> Reading
     requires { ⌜ place + 10 ≤ length (now bytes) ⌝ }
     ensures { λ r. ⌜ told r ≡ recordAt (now (bytes .entry)) place ⌝ }
 {
-    let key = word_at(bytes, place + 2);
-    let value = word_at(bytes, place + 6);
+    let key = little_endian::word_at(bytes, place + 2);
+    let value = little_endian::word_at(bytes, place + 6);
     let m = meaning_of(bytes[place], bytes[place + 1], key, value);
     match m {
         Meaning::Says(command) => Reading::Good(command, place + 10),

@@ -1,9 +1,9 @@
--- `records::word_of`: four bytes make a word that fits. Assumes nothing.
+-- `little_endian::word_of`: four bytes make a word that fits. Assumes nothing.
 use mathlib.Core.Path.{refl}
-use Rattle.records.specs.Word.{littleEndian}
+use Rattle.little_endian.specs.Word.{littleEndian}
 use borrow.Author.Needs.{needs}
-use Rattle.records.proofs.word_of.Statement.{statement}
-use Rattle.records.proofs.word_of.Tie as tie
+use Rattle.little_endian.proofs.word_of.Statement.{statement}
+use Rattle.little_endian.proofs.word_of.Tie as tie
 
 mul-result : tie.Need-mul-result
 mul-result c = search needs

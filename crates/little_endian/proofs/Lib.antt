@@ -1,0 +1,4 @@
+pub mod Laws
+pub mod Image
+pub mod Settled
+pub mod Claims
