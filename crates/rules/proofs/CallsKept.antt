@@ -21,7 +21,8 @@ use Rattle.rules.specs.Search.{Place, inTable, waitingAt, nowhere, searc
 use Rattle.rules.specs.Calls.{joined, withEntryValue, withValue, dropAt, without, Outcome, refused, accepted, acceptedRun, refuseIf, refuse5, orRefuse7, find, define, change, remove, settle, Call, Find, Define, Change, Remove, Settle, does}
 use Rattle.rules.specs.Sound.{present, IsGood, SoundContents}
 use Rattle.rules.specs.Keeps.{afterCall, CallKeepsSound, CallChangesLookup}
-use Rattle.rules.proofs.Weights.{contents, only-free, only-held, waitingWeight, weight, weight-put, times-present, to-present, of-present-weight, once-weight, weight-once, to-contents, of-contents-weight, isCell, isCell-same, isCell-other, held-weight}
+use Rattle.rules.specs.Contents.{contents}
+use Rattle.rules.proofs.Weights.{only-free, only-held, waitingWeight, weight, weight-put, times-present, to-present, of-present-weight, once-weight, weight-once, to-contents, of-contents-weight, isCell, isCell-same, isCell-other, held-weight}
 use Rattle.rules.proofs.Lookup.{Looked, looked, lookup-held, lookup-absent}
 use Rattle.rules.proofs.Parts.{EntrySound, parts, tables-of, queue-of, marks-of, put-sound, queue-behind}
 use Rattle.rules.proofs.Places.{entry-within, entry-in}

@@ -16,7 +16,8 @@ use Rattle.rules.specs.Sound.{present, IsGood, SoundContents}
 use Rattle.rules.specs.Keeps.{StepKeepsSound, StepKeepsLookup}
 use Rattle.rules.proofs.Steps.{by-kind, by-front}
 use Rattle.rules.proofs.Runs.{run-keeps}
-use Rattle.rules.proofs.Weights.{contents, only, only-free, only-held, weightIn, waitingWeight, weight, weight-put, to-present, of-present-weight, once-weight, weight-once, to-contents, of-contents-weight, isCell}
+use Rattle.rules.specs.Contents.{contents}
+use Rattle.rules.proofs.Weights.{only, only-free, only-held, weightIn, waitingWeight, weight, weight-put, to-present, of-present-weight, once-weight, weight-once, to-contents, of-contents-weight, isCell}
 use Rattle.rules.proofs.Lookup.{Looked, looked, lookup-held, lookup-absent}
 use Rattle.rules.proofs.Parts.{TablesSound, EntrySound, parts, tables-of, queue-of, marks-of, put-sound, side-sound, queue-behind, queue-front, no-marks, mark-more}
 

@@ -13,7 +13,7 @@ use Rattle.numbers.proofs.Ranges.{good-nonzero}
 use Rattle.rules.specs.Store.{Table, table-0, table-1, Entry, cellAt, Store, Numbers}
 use Rattle.rules.specs.Search.{Place, inTable, waitingAt, nowhere, searchQueue, search, entryAt, keyAt, valueAt, lookup}
 use Rattle.rules.specs.Sound.{present, IsGood, SoundContents}
-use Rattle.rules.proofs.Weights.{contents}
+use Rattle.rules.specs.Contents.{contents, ContentsAreWhatIsFound}
 use Rattle.rules.proofs.Places.{entry-within, entry-in, of-present, one-place, in-present, in-contents, of-contents}
 
 -- what a search in the queue from place j on answers
@@ -102,3 +102,18 @@ module _ (n : Numbers) (s : Store) (sound : SoundContents n s) (x : ℕ) (good :
       found : keyAt (search n x s) s ≡ x → Looked (valueAt (search n x s) s)
       found k = let u = value (search n x s) k in
           inl (u .0, u .1, k, subst (λ y. record { key = y; value = u .0 } ∈ contents s) k (in-contents s (search n x s) (u .0) (λ z. good-nonzero x good (sym k ∙ z)) (u .1)))
+
+  -- what is looked up is held
+  pub held-found : (v : ℕ) → lookup n x s ≡ some v → record { key = x; value = v } ∈ contents s
+  unfolding Looked
+  held-found v e = ⊎-elim held (λ t. absurd (never (t .0))) looked
+    where
+      held : (u : ℕ) × (lookup n x s ≡ some u) × (keyAt (search n x s) s ≡ x) × (record { key = x; value = u } ∈ contents s)
+          → record { key = x; value = v } ∈ contents s
+      held t = let same : t .0 ≡ v = cc (t .1) in subst (λ w. record { key = x; value = w } ∈ contents s) same (t .3)
+
+      never : lookup n x s ≡ none → ⊥
+      never f = let z : _≡_ {A = ℕ} 0 1 = cc in omega arith
+
+pub contents-are-what-is-found : ContentsAreWhatIsFound
+contents-are-what-is-found n s sound k v good = (held-found n s sound k good v, lookup-held n s sound k good v)

@@ -16,7 +16,7 @@ use Rattle.rules.specs.Store.{Table, table-0, table-1, Cell, freeCell, E
 use Rattle.rules.specs.Step.{taken}
 use Rattle.rules.specs.Search.{Place, inTable, waitingAt, nowhere, noEntry, entryAt, keyAt, valueAt}
 use Rattle.rules.specs.Sound.{occupied, cellKeys, entryKeys, present, SoundContents}
-use Rattle.rules.proofs.Weights.{contents}
+use Rattle.rules.specs.Contents.{contents}
 use Rattle.numbers.proofs.Ranges.{good-nonzero}
 
 -- an occupied cell is listed, and what is listed is an occupied cell

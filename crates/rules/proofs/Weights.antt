@@ -1,4 +1,4 @@
--- What a store holds, as one list and weighed: a key with its value, from both tables and the queue. Assumes nothing.
+-- What a store holds, weighed: a key with its value, from both tables and the queue. Assumes nothing.
 use Prim.Native.Nat.{ℕ, _+_, _≤_, _<_}
 use mathlib.Core.Path.{_≡_, refl, sym, _∙_, ap, subst}
 use mathlib.Core.Logic.{_≢_}
@@ -14,19 +14,16 @@ use Rattle.lists.proofs.Weigh.{weigh, weigh-append, weigh-set, weigh-mem, weigh
 use Rattle.rules.specs.Store.{Table, table-0, table-1, Cell, freeCell, Entry, Tables, tableOf, cellAt, putCell, Store}
 use Rattle.rules.specs.Step.{taken}
 use Rattle.rules.specs.Sound.{occupied, present}
-
--- each key with its value, as they lie in table 0, table 1 and the queue
-unfoldable pub contents : Store → List Cell
-contents s = occupied (s .tables .table0) ++ (occupied (s .tables .table1) ++ map taken (s .waiting))
+use Rattle.rules.specs.Contents.{contents, ContentsHaveThePresentKeys}
 
 abbrev keyOf : Cell → ℕ
 keyOf c = c .key
 
-pub present-keys : (s : Store) → present s ≡ map keyOf (contents s)
+pub contents-have-the-present-keys : ContentsHaveThePresentKeys
 unfolding present contents
-present-keys s = sym (map-append keyOf (occupied (s .tables .table0)) _
+contents-have-the-present-keys s = map-append keyOf (occupied (s .tables .table0)) _
     ∙ ap (λ l. map keyOf (occupied (s .tables .table0)) ++ l) (map-append keyOf (occupied (s .tables .table1)) (map taken (s .waiting))
-    ∙ ap (λ l. map keyOf (occupied (s .tables .table1)) ++ l) (map-map keyOf taken (s .waiting))))
+    ∙ ap (λ l. map keyOf (occupied (s .tables .table1)) ++ l) (map-map keyOf taken (s .waiting)))
 
 -- a weight of occupied cells alone
 abbrev pub only : (Cell → ℕ) → Cell → ℕ
@@ -72,7 +69,7 @@ weight-put w ts table-1 i c h = let e = weigh-set (only w) (ts .table1) i c free
 
 -- how often a key is present
 pub times-present : (k : ℕ) (s : Store) → times k (present s) ≡ weight (λ c. isOne k (c .key)) s
-times-present k s = ap (times k) (present-keys s) ∙ weigh-map keyOf (isOne k) (contents s) ∙ weigh-contents (λ c. isOne k (c .key)) s
+times-present k s = ap (times k) (sym (contents-have-the-present-keys s)) ∙ weigh-map keyOf (isOne k) (contents s) ∙ weigh-contents (λ c. isOne k (c .key)) s
 
 pub to-present : (k : ℕ) (s : Store) → 1 ≤ weight (λ c. isOne k (c .key)) s → k ∈ present s
 to-present k s h = of-times k (present s) (omega (arith, times-present k s))

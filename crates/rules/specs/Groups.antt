@@ -39,3 +39,7 @@ module _ (home : Table → ℕ → ℕ) where
   -- "The group's cells are all homes of its keys", each cell once
   unfoldable pub cellsOf : List ℕ → List Sided
   cellsOf G = eachOnce sameSided (map (homeCell table-0) G ++ map (homeCell table-1) G)
+
+-- every key of a list has a group
+abbrev pub EveryKeyHasAGroup : Type 0
+EveryKeyHasAGroup = (home : Table → ℕ → ℕ) (keys : List ℕ) (x : ℕ) → x ∈ keys → (G : List ℕ) × IsGroup home keys x G

@@ -4,6 +4,7 @@ pub mod Run
 pub mod Search
 pub mod Calls
 pub mod Sound
+pub mod Contents
 pub mod Groups
 pub mod Keeps
 pub mod Limits
