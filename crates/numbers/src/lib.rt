@@ -39,8 +39,9 @@ fn mod_p(sum: u64) -> u32
     }
 }
 
-// The home of x in a table of r cells: a 64-bit product, and a 32-bit remainder by r, since the remainder by p is below 2^31.
-fn home_of(a: u32, b: u32, r: u32, x: u32) -> u32
+// The home of x in a table of r cells: a 64-bit product, and a 32-bit remainder by r, since the remainder by p is below 2^31. Any function of the page's form
+// may use it.
+pub fn home_of(a: u32, b: u32, r: u32, x: u32) -> u32
     requires { ⌜ 0 < r ⌝ }
     ensures { λ k. ⌜ k ≡ home a b r x ⌝ }
 {
