@@ -1,4 +1,6 @@
 // Define, the record and the lengths being accepted. Inner functions: their callers show what they require.
+#![tactic(auto)]
+
 ghost use Rattle.std.specs.Prelude.{◌≡◌, ◌<◌};
 ghost use Rattle.rules.specs.Run.{run};
 ghost use Rattle.rules.specs.Calls.{joined, define};

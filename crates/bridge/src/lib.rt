@@ -1,4 +1,6 @@
 // The store's calls for C and Rust: one exported function for each, any record and any lengths.
+#![tactic(auto)]
+
 ghost use Rattle.std.specs.Prelude.{◌≡◌};
 ghost use Rattle.layout.specs.Memory.{lent};
 ghost use Rattle.store.specs.Refusals.{outcome};

@@ -1,3 +1,5 @@
+#![tactic(auto)]
+
 // Runs the case program's session on each file that an argument names; the name stands before the lines.
 fn case_of(i: usize) {
     let mut path = io::buffer();

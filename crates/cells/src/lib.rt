@@ -1,4 +1,6 @@
 // The test of the cells of a table, in time linear in it. Inner functions: their callers show what they require.
+#![tactic(auto)]
+
 ghost use Rattle.std.specs.Prelude.{◌≡◌, List, ◌+◌, ◌*◌, ◌≤◌, ◌<◌, length, get_or};
 ghost use Rattle.rules.specs.Store.{meant, Cell, Numbers};
 ghost use Rattle.rules.specs.Check.{is_held, cell_ok, cells_ok};

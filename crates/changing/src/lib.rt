@@ -1,4 +1,6 @@
 // Change, the record and the lengths being accepted. Inner functions: their callers show what they require.
+#![tactic(auto)]
+
 ghost use Rattle.std.specs.Prelude.{◌≡◌, List, ℕ, ◌+◌, ◌*◌, ◌≤◌, ◌<◌, length};
 ghost use Rattle.rules.specs.Calls.{change};
 ghost use Rattle.layout.specs.Memory.{lent};

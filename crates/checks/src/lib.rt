@@ -1,4 +1,6 @@
 // The test of a whole store, in time linear in its tables. An inner function: its callers show what it requires.
+#![tactic(auto)]
+
 ghost use Rattle.std.specs.Prelude.{◌≡◌, ◌*◌, ◌≤◌, length};
 ghost use Rattle.rules.specs.Store.{Numbers};
 ghost use Rattle.layout.specs.Memory.{homes_of};

@@ -1,4 +1,6 @@
 // Runs a command on a store: one function from a command to the call that it asks for. Any record, command and buffers.
+#![tactic(auto)]
+
 ghost use Rattle.std.specs.Prelude.{◌≡◌};
 ghost use Rattle.layout.specs.Memory.{lent};
 ghost use Rattle.store.specs.Refusals.{outcome};

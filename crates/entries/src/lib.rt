@@ -1,4 +1,6 @@
 // The tests of queue and detector, and of the places past their lengths. Inner functions: their callers show what they require.
+#![tactic(auto)]
+
 ghost use Rattle.std.specs.Prelude.{◌≡◌, ◌&&◌, not, leb, ◌+◌, ◌-◌, ◌*◌, ◌≤◌, ◌<◌, length, get_or, drop};
 ghost use Rattle.numbers.specs.Ranges.{good_key};
 ghost use Rattle.rules.specs.Store.{meant, Numbers};

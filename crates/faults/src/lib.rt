@@ -1,4 +1,6 @@
 // Refusals 1, 2 and 3: of a record's numbers and of the buffers' lengths. Any numbers and any lengths.
+#![tactic(auto)]
+
 ghost use Rattle.std.specs.Prelude.{◌≡◌, true};
 ghost use Rattle.faults.specs.Faults.{numbers_in_range, lengths_fit, fault_of};
 

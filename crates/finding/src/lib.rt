@@ -1,4 +1,6 @@
 // Where a key lies, and what find answers. Inner functions: their callers show what they require.
+#![tactic(auto)]
+
 ghost use Rattle.std.specs.Prelude.{◌≡◌, ℕ, ◌*◌, ◌≤◌, List, length};
 ghost use Rattle.rules.specs.Calls.{answer, find};
 ghost use Rattle.layout.specs.Memory.{lent};
@@ -9,7 +11,7 @@ use numbers::{Functions, Rooms};
 
 // What a call gives back: the lengths, the detector's in the upper half, and its answer. The record goes on to the next call, which reads both lengths at once: two
 // halves, written one after the other, would hold it up.
-#[derive(Drop)]
+#[derive(Clone, Copy)]
 pub struct Done {
     pub lengths: u64,
     pub number: u32,
@@ -19,7 +21,7 @@ pub struct Done {
 }
 
 // Where a key lies: a cell of table 0 or 1, a queue place counted from the front, or nowhere.
-#[derive(Drop)]
+#[derive(Clone, Copy)]
 pub enum Place {
     Table0(usize),
     Table1(usize),
@@ -28,7 +30,7 @@ pub enum Place {
 }
 
 // What a search saw: the place, and find's answer to it: 0 with the value there, or 7.
-#[derive(Drop)]
+#[derive(Clone, Copy)]
 pub struct Seen {
     pub place: Place,
     pub number: u32,

@@ -1,4 +1,6 @@
 // The three kinds of step, on lent words. Inner functions: their callers show what they require.
+#![tactic(auto)]
+
 ghost use Rattle.std.specs.Prelude.{◌≡◌, ◌||◌, leb, ◌+◌, ◌*◌, ◌≤◌, ◌<◌, length};
 ghost use Rattle.rules.specs.Store.{meant};
 ghost use Rattle.rules.specs.Step.{is_marked};
@@ -6,7 +8,7 @@ ghost use Rattle.layout.specs.Forms.{pair_form, read_many};
 ghost use Rattle.kinds.specs.Shape.{Ready, Landed, Aside, Swapped};
 
 // What a step was, and the lengths that it leaves.
-#[derive(Drop)]
+#[derive(Clone, Copy)]
 pub struct Turn {
     pub kind: u32,
     pub queue_len: u32,

@@ -1,4 +1,6 @@
 // Looking through the words of queue and detector, and clearing what lies past their lengths. Inner functions: their callers show what they require.
+#![tactic(auto)]
+
 ghost use Rattle.std.specs.Prelude.{◌≡◌, ◌&&◌, eqb, ◌*◌, ◌≤◌, length};
 ghost use Rattle.rules.specs.Store.{meant, same_table};
 ghost use Rattle.rules.specs.Step.{is_marked};

@@ -1,5 +1,7 @@
 // Runs the lines of "Checked by hand" on the real calls. Each call prints a line: its mark or name, its key or budget, the refusal, the value, the steps, the moves.
 // After some of them the words of a buffer are printed.
+#![tactic(auto)]
+
 use records::Command;
 use session::Bench;
 use store::{Answer, Control};

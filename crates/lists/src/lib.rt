@@ -1,1 +1,2 @@
 // Lists as finite sets: definitions and laws alone. This crate has no code.
+#![tactic(auto)]

@@ -1,4 +1,6 @@
 // Words of 32 bits in bytes, little-endian: a word at a place, and the words of an image. Inner functions: their callers show what they require.
+#![tactic(auto)]
+
 ghost use Rattle.std.specs.Prelude.{◌≡◌, ◌+◌, ◌<◌, ◌≤◌, length, get_or, set, take, drop};
 ghost use Rattle.std.proofs.lemmas.List.Edits.{sets};
 ghost use Rattle.little_endian.specs.Word.{little_endian, word_at, bytes_of_word};

@@ -1,11 +1,13 @@
 // Reads command records: ten bytes each, a mark of two letters, a key word and a value word. Any bytes and any place.
+#![tactic(auto)]
+
 ghost use Rattle.std.specs.Prelude.{◌≡◌, ◌+◌, ◌≤◌, length};
 ghost use Rattle.records.specs.Record.{fields, if_good, record_at, read_at};
 ghost use Rattle.records.specs.Told.{fields_of, heading_of, told};
 ghost use Rattle.records.specs.Inner.{said, if_zero};
 
 // What a record asks of a store.
-#[derive(Drop)]
+#[derive(Clone, Copy)]
 pub enum Command {
     Define(u32, u32),
     Change(u32, u32),
@@ -15,7 +17,7 @@ pub enum Command {
 }
 
 // The mark's letters and the key word of a record.
-#[derive(Drop)]
+#[derive(Clone, Copy)]
 pub struct Heading {
     pub first: u8,
     pub second: u8,
@@ -23,7 +25,7 @@ pub struct Heading {
 }
 
 // What reading at a place answers: the command and the next place, refusal 10 with the place where the record began, or the end.
-#[derive(Drop)]
+#[derive(Clone, Copy)]
 pub enum Reading {
     Good(Command, usize),
     Refused(usize),
@@ -31,7 +33,7 @@ pub enum Reading {
 }
 
 // What the fields of a record mean: a command, or nothing.
-#[derive(Drop)]
+#[derive(Clone, Copy)]
 enum Meaning {
     Says(Command),
     Nothing,

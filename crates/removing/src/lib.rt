@@ -1,4 +1,6 @@
 // Remove, the record and the lengths being accepted. Inner functions: their callers show what they require.
+#![tactic(auto)]
+
 ghost use Rattle.std.specs.Prelude.{◌≡◌, ◌+◌, ◌*◌, ◌<◌, length};
 ghost use Rattle.rules.specs.Calls.{remove};
 ghost use Rattle.layout.specs.Memory.{lent};

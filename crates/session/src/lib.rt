@@ -1,4 +1,6 @@
 // A session on store S: records are read from a descriptor and run, and a line is printed for each.
+#![tactic(auto)]
+
 use records::{Command, Heading, Reading};
 use store::{Answer, Control};
 

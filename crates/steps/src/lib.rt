@@ -1,4 +1,6 @@
 // One step and runs of steps, on lent words. Inner functions: their callers show what they require.
+#![tactic(auto)]
+
 ghost use Rattle.std.specs.Prelude.{◌≡◌, List, ◌*◌, ◌≤◌, ◌<◌, length, get_or, drop};
 ghost use Rattle.rules.specs.Store.{meant, Cell, Numbers};
 ghost use Rattle.rules.specs.Step.{step_at, step};
@@ -11,7 +13,7 @@ use kinds::Turn;
 use numbers::Functions;
 
 // The lengths that a run leaves, and its counts.
-#[derive(Drop)]
+#[derive(Clone, Copy)]
 pub struct Ended {
     pub queue_len: u32,
     pub detector_len: u32,

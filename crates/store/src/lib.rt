@@ -1,4 +1,6 @@
 // The key table: calls on a control record, by value, and on lent words. Every call takes every record, number and buffer.
+#![tactic(auto)]
+
 ghost use Rattle.std.specs.Prelude.{◌≡◌};
 ghost use Rattle.rules.specs.Calls.{answer};
 ghost use Rattle.layout.specs.Memory.{lent};
@@ -13,7 +15,7 @@ use numbers::{Functions, Rooms};
 
 // r, Q, D, L, the numbers of the two home functions, and the two lengths.
 #[repr(C)]
-#[derive(Drop)]
+#[derive(Clone, Copy)]
 pub struct Control {
     pub r: u32,
     pub queue_room: u32,
@@ -29,7 +31,7 @@ pub struct Control {
 
 // What every call answers. Number 0 is accepted.
 #[repr(C)]
-#[derive(Drop)]
+#[derive(Clone, Copy)]
 pub struct Answer {
     pub control: Control,
     pub number: u32,

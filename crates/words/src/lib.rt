@@ -1,4 +1,6 @@
 // Words that a caller lends: stored, cleared, moved up. Inner functions: their callers show what they require.
+#![tactic(auto)]
+
 ghost use Rattle.std.specs.Prelude.{◌≡◌, [], ◌∷◌, ◌+◌, ◌-◌, ◌≤◌, ◌<◌, length, drop};
 ghost use Rattle.std.proofs.lemmas.List.Edits.{sets};
 ghost use Rattle.std.proofs.Math.Seq.{paste};
