@@ -1,0 +1,20 @@
+-- `kinds::swap` meets its contract: another front over the first, and one pair more. Assumes nothing.
+use mathlib.Core.Path.{refl, ◌∙◌}
+use native.Mathlib.Omega.{arith}
+use Rattle.layout.specs.Forms.{entry_form, pair_form}
+use Rattle.layout.proofs.Forms.{entry_lawful, pair_lawful}
+use Rattle.layout.proofs.Ready.{front_over, one_behind}
+use Rattle.kinds.specs.Shape.{entry, pair}
+use Rattle.kinds.proofs.swap.Goals as goal
+
+pub returns : goal.returns
+returns c =
+    let s = c in
+    let a = s.args in
+    let w = s.requires.ready in
+    record {
+      table = c.put_two.ensures;
+      queue = c.put_three.ensures ∙ front_over entry_form entry_lawful a.ql a.queue.now w.queue w.queue_in s.requires.ql_nonzero (entry _ _ _);
+      detector = c.put_two-2.ensures ∙ one_behind pair_form pair_lawful a.dl a.detector.now w.detector w.detector_in (omega (arith, s.requires.dl_in_bounds)) (pair a.y a.b);
+      answer = refl;
+    }
