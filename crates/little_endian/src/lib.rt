@@ -7,6 +7,7 @@ ghost use Rattle.little_endian.specs.Word.{little_endian, word_at, bytes_of_word
 ghost use Rattle.little_endian.specs.Image.{words_of, words_put, Holds};
 
 // The word of four bytes, the lowest first.
+#[tactic(auto, unfolding(crate::specs::Word::little_endian))]
 fn word_of(b0: u8, b1: u8, b2: u8, b3: u8) -> u32
     ensures { result ≡ little_endian b0 b1 b2 b3 }
 {
@@ -33,6 +34,7 @@ pub fn put_word(bytes: &mut [u8], at: usize, w: u32)
 }
 
 // Word i of an image.
+#[tactic(auto, using(crate::proofs::Image::word_read))]
 pub fn image_word(image: &[u8], i: usize) -> u32
     requires { i < length (words_of image.now) }
     ensures { result ≡ get_or (words_of image.now) i 0 }

@@ -51,6 +51,7 @@ fn spared(value: u32, command: Command) -> Meaning
 }
 
 // What a mark and two words mean.
+#[tactic(auto, unfolding(crate::specs::Record::is_good))]
 fn meaning_of(first: u8, second: u8, key: u32, value: u32) -> Meaning
     ensures { said result ≡ if_good (fields first second key value) }
 {
@@ -73,6 +74,7 @@ fn meaning_of(first: u8, second: u8, key: u32, value: u32) -> Meaning
 }
 
 // The record at a place that has ten bytes.
+#[tactic(auto, unfolding(crate::specs::Record::record_at))]
 fn record_at(bytes: &[u8], place: usize) -> Reading
     requires { place + 10 ≤ length bytes.now }
     ensures { told result ≡ record_at bytes.now place }
@@ -87,6 +89,7 @@ fn record_at(bytes: &[u8], place: usize) -> Reading
 }
 
 // Reading at a place.
+#[tactic(auto, unfolding(crate::specs::Record::read_at))]
 pub fn read(bytes: &[u8], place: usize) -> Reading
     ensures { told result ≡ read_at bytes.now place }
 {
