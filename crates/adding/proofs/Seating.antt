@@ -50,21 +50,21 @@ cell-written r i x v t size h =
 
 module _ (f : Functions) (c : Rooms) (x v : ℕ) (t0 t1 q d : List ℕ) {i : ℕ} (fit : FitIn f c (lent t0 t1 q d)) (none : c.queue_len ≡ 0)
     (home : i ≡ home0 f x) (free : get_or t0 (2 * i) 0 ≡ 0) where
-  IsInside : i < f.r
-  IsInside = rw home (home0_in_table f x fit.some)
+  inside : i < f.r
+  inside = rw home (home0_in_table f x fit.some)
 
   waits_none : entries_in c.queue_len q ≡ []
   unfolding read_many
   waits_none = ap (λ k. read_many entry_form k q) none
 
   free-home : (cell_at (store_of f c (lent t0 t1 q d)).tables table_0 (home0 f x)).key ≡ 0
-  free-home = rw (sym home) (ap (λ (e : Cell). e.key) (cell-read f.r i t0 IsInside) ∙ free)
+  free-home = rw (sym home) (ap (λ (e : Cell). e.key) (cell-read f.r i t0 inside) ∙ free)
 
   pub seated_at_once : {t q' d' : List ℕ} {a : Told} → t ≡ sets t0 (2 * i) (x ∷ v ∷ []) → Tidied 0 0 q d q' d' → a ≡ tells 0 0 0 0 1 0
       → outcome (lent t t1 q' d') a ≡ ran_outcome c (run (numbers_of f c) c.step_limit (joined x v (store_of f c (lent t0 t1 q d))))
   unfolding words_in read_many
   seated_at_once e tidy is =
-      (λ j. outcome (lent ((e ∙ cell-written f.r i x v t0 fit.first IsInside ∙ ap (λ k. write_many cell_form (set (cells_in f.r t0) k (record { key = x; value = v }))) home) j)
+      (λ j. outcome (lent ((e ∙ cell-written f.r i x v t0 fit.first inside ∙ ap (λ k. write_many cell_form (set (cells_in f.r t0) k (record { key = x; value = v }))) home) j)
       (sym (write-all cell_form cell_lawful f.r t1 fit.second) j)
       ((tidy.queue ∙ ap (λ k. packed entry_form k []) fit.rooms.queue) j) ((tidy.detector ∙ ap (λ k. packed pair_form k []) fit.rooms.detector) j))
       (is j))

@@ -103,7 +103,7 @@ abbrev pub IsInside : Functions → Rooms → Place → Type 0
 IsInside f c (Table0 i) = i < f.r
 IsInside f c (Table1 i) = i < f.r
 IsInside f c (Waiting j) = j < c.queue_len
-inside f c Nowhere = Unit {0}
+IsInside f c Nowhere = Unit {0}
 
 -- the place that the rules' search answers
 pub record Located (f : Functions) (c : Rooms) (x : ℕ) (m : Lent) (p : Place) : Type 0 where

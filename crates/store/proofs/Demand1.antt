@@ -108,7 +108,7 @@ calls_are_limited call c m = subst (Limited c) (does-is call c m)
         let l = rules-are-limited (numbers_of c) call (store_of c m) in
         let steps = ap (λ a. a.steps) e in
         let moves = ap (λ a. a.moves) e in
-        record { steps_at_most_L = omega (arith, l.steps-at-most-L); moves_at_most_steps = omega (arith, l.moves-at-most-steps) }
+        record { steps_at_most_L = omega (arith, l.steps_at_most_L); moves_at_most_steps = omega (arith, l.moves_at_most_steps) }
 
 -- what holds of open's two refusals and of an accepted open holds of open
 pub by_open : (c : Control) (m : Lent) (P : Outcome → Type 0) → P (keeps zeros m (answer 1 0 0 0)) → P (keeps zeros m (answer 2 0 0 0))
