@@ -1,0 +1,31 @@
+-- `entries::queue_ok` meets its contract: the entries pass exactly if those from place j on do. The measure is n - j. Assumes nothing.
+use Prim.Native.Nat.{◌-◌, ◌≤◌}
+use mathlib.Core.Path.{◌≡◌, sym, ◌∙◌}
+use native.Mathlib.Omega.{arith}
+use native.Mathlib.Nat.{sub-zero}
+use borrow.Author.Rules.{rules}
+use borrow.Author.Tests.{not-true, not-false}
+use Rattle.rules.specs.Store.{table_0, Numbers}
+use Rattle.rules.specs.Check.{queue_ok}
+use Rattle.layout.specs.Memory.{cells_in, entries_in, homes_of}
+use Rattle.steps.specs.Shape.{with_table}
+use Rattle.entries.proofs.Queue.{entries_from, entry_bad, entry-good, queue_end}
+use Rattle.entries.proofs.queue_ok.Goals as goal
+
+pub returns-then-not-entry_ok : goal.returns-then-not-entry_ok
+returns-then-not-entry_ok c m h =
+    let a = c.args in
+    let o = c.loop-j in
+    sym (o.invariant.1 m h ∙ entry_bad m _ a.n o.j a.queue.now c.loop-j-test.true (sym (c.entry_ok.ensures m h) ∙ c.if-not-entry_ok.true))
+
+pub loop-j-preserved : goal.loop-j-preserved
+loop-j-preserved c =
+    let a = c.args in
+    let o = c.loop-j in
+    (omega arith, λ m h. o.invariant.1 m h ∙ entry-good m _ a.n o.j a.queue.now c.loop-j-test.true (sym (c.entry_ok.ensures m h) ∙ c.if-not-entry_ok.false))
+
+pub returns : goal.returns
+returns c m h =
+    let a = c.args in
+    let o = c.loop-j in
+    sym (o.invariant.1 m h ∙ queue_end m _ a.n o.j a.queue.now c.loop-j-test.false)
