@@ -1,6 +1,6 @@
 /* The key table from C: four rails are set, a second line for one of them is refused. Build with the archive that
- * `rt staticlib bridge` writes:
- *     cc -std=c99 -Icrates/bridge examples/rails.c target/staticlib/libbridge.a
+ * `rt lib` in crates/bridge writes:
+ *     cc -std=c99 -Icrates/bridge examples/rails.c crates/bridge/out/libbridge.a
  */
 #include <kt.h>
 #include <stdio.h>

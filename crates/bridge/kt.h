@@ -1,4 +1,4 @@
-/* kt.h: the key table, seven proved calls. The archive libbridge.a has them (`rt staticlib bridge`).
+/* kt.h: the key table, seven proved calls. The archive out/libbridge.a has them (`rt lib`).
  *
  * The caller lends four buffers of uint32_t: two tables, a queue and a detector, each as a pointer and
  * its length in words. A call gets a record by value and answers the record for the next call. Give the

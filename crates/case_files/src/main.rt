@@ -1,25 +1,20 @@
 #![tactic(auto)]
 
+use std::io::Write;
+use std::{env, fs, io};
+
 // Runs the case program's session on each file that an argument names; the name stands before the lines.
-fn case_of(i: usize) {
-    let mut path = io::buffer();
-    let n = os::arg(i, &mut path);
-    io::write_all(1, &path[..n]);
-    io::write_all(1, b"\n");
-    let fd = os::open_read(&path[..n]);
-    if fd < 0 {
-        os::fail(&path[..n]);
-        return;
-    }
-    session::run(fd);
-    libc::close(fd);
+fn case_of(rt: &HostRuntime, path: &str) -> io::Result<()> {
+    let mut out = rt.stdout();
+    out.write_all(path.as_bytes())?;
+    out.write_all(b"\n")?;
+    let mut file = fs::open(rt, path)?;
+    session::run(&mut file, &mut out)
 }
 
-fn main() {
-    let count = os::arg_count();
-    let mut i = 1;
-    while i < count {
-        case_of(i);
-        i += 1;
+fn main(rt: HostRuntime) -> io::Result<()> {
+    for path in env::args(&rt)?.skip(1) {
+        case_of(&rt, path.as_str())?;
     }
+    Ok(())
 }

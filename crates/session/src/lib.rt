@@ -1,34 +1,35 @@
-// A session on store S: records are read from a descriptor and run, and a line is printed for each.
+// A session on store S: records are read from a reader and run, and a line is printed for each.
 #![tactic(auto)]
 
 use records::{Command, Heading, Reading};
+use std::io;
+use std::io::{Read, Write};
 use store::{Answer, Control};
 
-fn number(n: u64) {
-    io::write_all(1, b" ");
-    io::print_decimal(1, n);
+fn number<W: Write>(out: &mut W, n: u64) -> io::Result<()> {
+    write!(out, " {n}")
 }
 
 // A command's line: mark, key word, refusal, value, steps, moves.
-pub fn told(h: Heading, a: Answer) {
+pub fn told<W: Write>(out: &mut W, h: Heading, a: Answer) -> io::Result<()> {
     let mark = [h.first, h.second];
-    io::write_all(1, &mark);
-    number(h.key as u64);
-    number(a.number as u64);
-    number(a.value as u64);
-    number(a.steps as u64);
-    number(a.moves as u64);
-    io::write_all(1, b"\n");
+    out.write_all(&mark)?;
+    number(out, h.key as u64)?;
+    number(out, a.number as u64)?;
+    number(out, a.value as u64)?;
+    number(out, a.steps as u64)?;
+    number(out, a.moves as u64)?;
+    out.write_all(b"\n")
 }
 
 // The line of a bad record, with its place in the input.
-fn bad(place: u64) {
-    io::write_all(1, b"??");
-    number(place);
-    io::write_all(1, b" 10 0 0 0\n");
+fn bad<W: Write>(out: &mut W, place: u64) -> io::Result<()> {
+    out.write_all(b"??")?;
+    number(out, place)?;
+    out.write_all(b" 10 0 0 0\n")
 }
 
-// Store S, handed from call to call.
+// Store S.
 #[derive(Drop)]
 pub struct Bench {
     pub c: Control,
@@ -69,32 +70,25 @@ impl Bench {
     }
 
     // Runs a command and prints its line.
-    pub fn runs(self, command: Command) -> Bench {
-        let c = self.c;
-        let mut t0 = self.t0;
-        let mut t1 = self.t1;
-        let mut queue = self.queue;
-        let mut detector = self.detector;
-        let a = commands::run(c, command, &mut t0, &mut t1, &mut queue, &mut detector);
-        told(records::heading_of(command), a);
-        let next = a.control;
-        Bench {
-            c: next,
-            t0,
-            t1,
-            queue,
-            detector,
-        }
+    pub fn runs<W: Write>(&mut self, out: &mut W, command: Command) -> io::Result<()> {
+        let a = commands::run(
+            self.c,
+            command,
+            &mut self.t0,
+            &mut self.t1,
+            &mut self.queue,
+            &mut self.detector,
+        );
+        self.c = a.control;
+        told(out, records::heading_of(command), a)
     }
 }
 
 // The bytes from a place on, at the front.
 fn moved(from: [u8; 64], at: usize) -> [u8; 64] {
     let mut bytes = from;
-    let mut i = at;
-    while i < 64 {
+    for i in at..64 {
         bytes[i - at] = bytes[i];
-        i += 1;
     }
     bytes
 }
@@ -108,13 +102,17 @@ fn read_front(bytes: &[u8], have: usize, at: usize) -> Reading {
     }
 }
 
-// Fills the room behind the bytes that are kept, and answers how many came.
-fn fill(fd: i32, bytes: &mut [u8], kept: usize) -> usize {
-    if kept <= bytes.len() {
-        io::read_full(fd, &mut bytes[kept..])
-    } else {
-        0
+// Fills the room behind the bytes that are kept, as far as the input goes, and answers how many came.
+fn fill<R: Read>(input: &mut R, bytes: &mut [u8], kept: usize) -> io::Result<usize> {
+    let mut end = kept;
+    while end < bytes.len() {
+        let n = input.read(&mut bytes[end..])?;
+        if n == 0 {
+            break;
+        }
+        end += n;
     }
+    Ok(end - kept)
 }
 
 // What is left of the bytes.
@@ -145,32 +143,28 @@ impl Window {
     }
 
     // What stands at the place reached.
-    fn reads(self) -> Reading {
-        let bytes = self.bytes;
-        read_front(&bytes, self.have, self.at)
+    fn reads(&self) -> Reading {
+        read_front(&self.bytes, self.have, self.at)
     }
 
     // What comes before the next place is done.
-    fn done_to(mut self, next: usize) -> Window {
+    fn done_to(&mut self, next: usize) {
         self.at = next;
         self.filled = false;
-        self
     }
 
     // What is not done moves to the front, and the input fills the room behind it.
-    fn refilled(self, fd: i32) -> Window {
+    fn refilled<R: Read>(&mut self, input: &mut R) -> io::Result<()> {
         let at = self.at;
-        let before = self.bytes;
-        let mut bytes = moved(before, at);
+        let mut bytes = moved(self.bytes, at);
         let kept = left(self.have, at);
-        let n = fill(fd, &mut bytes, kept);
-        Window {
-            bytes,
-            have: std::num::wrapping_add_usize(kept, n),
-            at: 0,
-            passed: std::num::wrapping_add_u64(self.passed, at as u64),
-            filled: true,
-        }
+        let n = fill(input, &mut bytes, kept)?;
+        self.bytes = bytes;
+        self.have = kept.wrapping_add(n);
+        self.at = 0;
+        self.passed = self.passed.wrapping_add(at as u64);
+        self.filled = true;
+        Ok(())
     }
 }
 
@@ -191,72 +185,63 @@ impl Session {
         }
     }
 
-    fn ends(mut self) -> Session {
+    fn ends(&mut self) {
         self.over = true;
-        self
     }
 
     // A command is run; what it was read from is done.
-    fn ran(self, command: Command, next: usize) -> Session {
-        let b = self.bench;
-        let w = self.window;
-        Session {
-            bench: b.runs(command),
-            window: w.done_to(next),
-            over: false,
-        }
+    fn ran<W: Write>(&mut self, out: &mut W, command: Command, next: usize) -> io::Result<()> {
+        self.bench.runs(out, command)?;
+        self.window.done_to(next);
+        Ok(())
     }
 
-    fn refilled(self, fd: i32) -> Session {
-        let bench = self.bench;
-        let w = self.window;
-        Session {
-            bench,
-            window: w.refilled(fd),
-            over: false,
-        }
+    fn refilled<R: Read>(&mut self, input: &mut R) -> io::Result<()> {
+        self.window.refilled(input)
     }
 
     // A record can not be read: more input is needed, or it is bad.
-    fn refused(self, fd: i32, place: usize) -> Session {
-        let w = self.window;
-        if w.filled {
-            bad(std::num::wrapping_add_u64(w.passed, place as u64));
-            return self.ends();
+    fn refused<R: Read, W: Write>(
+        &mut self,
+        input: &mut R,
+        out: &mut W,
+        place: usize,
+    ) -> io::Result<()> {
+        if self.window.filled {
+            bad(out, self.window.passed.wrapping_add(place as u64))?;
+            self.ends();
+            return Ok(());
         }
-        self.refilled(fd)
+        self.refilled(input)
     }
 
     // Every byte is done: more input is needed, or there is none.
-    fn ended(self, fd: i32) -> Session {
-        let w = self.window;
-        if w.filled {
-            return self.ends();
+    fn ended<R: Read>(&mut self, input: &mut R) -> io::Result<()> {
+        if self.window.filled {
+            self.ends();
+            return Ok(());
         }
-        self.refilled(fd)
+        self.refilled(input)
     }
 
     // A record or a fill.
-    fn turn(self, fd: i32) -> Session {
-        let w = self.window;
-        let r = w.reads();
-        match r {
-            Reading::Good(command, next) => self.ran(command, next),
-            Reading::Refused(place) => self.refused(fd, place),
-            Reading::End => self.ended(fd),
+    fn turn<R: Read, W: Write>(&mut self, input: &mut R, out: &mut W) -> io::Result<()> {
+        match self.window.reads() {
+            Reading::Good(command, next) => self.ran(out, command, next),
+            Reading::Refused(place) => self.refused(input, out, place),
+            Reading::End => self.ended(input),
         }
     }
 }
 
-// A proved loop has to end, and nothing says that the input does. So the turns are counted down, from a number that no run uses up.
-pub fn run(fd: i32) {
+// A proved loop has to end, and nothing says that the input does. So the turns are counted, up to a number that no run reaches.
+pub fn run<R: Read, W: Write>(input: &mut R, out: &mut W) -> io::Result<()> {
     let mut s = Session::starts();
-    let mut turns = u64::MAX;
-    while turns > 0 {
+    for _ in 0..u64::MAX {
         if s.over {
-            return;
+            break;
         }
-        s = s.turn(fd);
-        turns -= 1;
+        s.turn(input, out)?;
     }
+    Ok(())
 }
