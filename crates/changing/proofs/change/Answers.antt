@@ -4,7 +4,6 @@ use mathlib.Core.List.{[]}
 use native.Mathlib.Omega.{arith}
 use Rattle.finding.proofs.Searching.{located_as}
 use Rattle.changing.proofs.Changing.{changes_bad, changes-first, changes-second, changes-waiting, changes_none}
-use borrow.Author.Rules.{rules}
 use Rattle.changing.proofs.change.Goals as goal
 
 pub returns-then-not-is_key : goal.returns-then-not-is_key
@@ -14,19 +13,19 @@ returns-then-not-is_key c d =
 
 pub exchange-requires : goal.exchange-requires
 exchange-requires c =
-    let h = (located_as (c.search-s.ensures []).at c.p-1.given.1).within in
+    let h = (located_as (c.search-s.ensures []).at c.in-Table0.is).within in
     let s = c.requires.tables_ready in
     (omega arith, omega arith)
 
 pub exchange-requires-in-Table1 : goal.exchange-requires-in-Table1
 exchange-requires-in-Table1 c =
-    let h = (located_as (c.search-s.ensures []).at c.p-in-Table1-1.given.1).within in
+    let h = (located_as (c.search-s.ensures []).at c.in-Table1.is).within in
     let s = c.requires.tables_ready in
     (omega arith, omega arith)
 
 pub exchange-requires-in-Waiting : goal.exchange-requires-in-Waiting
 exchange-requires-in-Waiting c =
-    let h = (located_as (c.search-s.ensures []).at c.p-in-Waiting-1.given.1).within in
+    let h = (located_as (c.search-s.ensures []).at c.in-Waiting.is).within in
     let s = c.requires.queue_len_in_bounds in
     (omega arith, omega arith)
 
@@ -34,22 +33,22 @@ pub returns-in-Table0 : goal.returns-in-Table0
 returns-in-Table0 c d =
     let a = c.args in
     changes-first a.f a.c a.x a.v a.t0.now a.t1.now a.queue.now d c.is_key.ensures (ap not c.if-not-is_key.false)
-    (located_as (c.search-s.ensures d).at c.p-1.given.1) c.exchange.ensures
+    (located_as (c.search-s.ensures d).at c.in-Table0.is) c.exchange.ensures
 
 pub returns-in-Table1 : goal.returns-in-Table1
 returns-in-Table1 c d =
     let a = c.args in
     changes-second a.f a.c a.x a.v a.t0.now a.t1.now a.queue.now d c.is_key.ensures (ap not c.if-not-is_key.false)
-    (located_as (c.search-s.ensures d).at c.p-in-Table1-1.given.1) c.exchange-in-Table1.ensures
+    (located_as (c.search-s.ensures d).at c.in-Table1.is) c.exchange-in-Table1.ensures
 
 pub returns-in-Waiting : goal.returns-in-Waiting
 returns-in-Waiting c d =
     let a = c.args in
     changes-waiting a.f a.c a.x a.v a.t0.now a.t1.now a.queue.now d c.is_key.ensures (ap not c.if-not-is_key.false)
-    (located_as (c.search-s.ensures d).at c.p-in-Waiting-1.given.1) c.exchange-in-Waiting.ensures
+    (located_as (c.search-s.ensures d).at c.in-Waiting.is) c.exchange-in-Waiting.ensures
 
 pub returns-in-Nowhere : goal.returns-in-Nowhere
 returns-in-Nowhere c d =
     let a = c.args in
     changes_none a.f a.c a.x a.v a.t0.now a.t1.now a.queue.now d c.is_key.ensures (ap not c.if-not-is_key.false)
-    (located_as (c.search-s.ensures d).at c.enum_told-1.given.1) c.reply-in-Nowhere.ensures
+    (located_as (c.search-s.ensures d).at c.in-Nowhere.is) c.reply-in-Nowhere.ensures

@@ -1,10 +1,6 @@
 -- `entries::all_zero` meets its contract: the words are zero exactly if those from place i on are. The measure is what is left of the length. Assumes nothing.
-use Prim.Native.Nat.{◌-◌, ◌≤◌}
-use mathlib.Core.Path.{◌≡◌, refl, sym, ◌∙◌}
+use mathlib.Core.Path.{sym, ◌∙◌}
 use native.Mathlib.Omega.{arith}
-use borrow.Author.Rules.{rules}
-use lib.ListN.{length, drop}
-use Rattle.entries.specs.Zeros.{all_zero}
 use Rattle.entries.proofs.Zeros.{not_zero, zero_here, zeros_end}
 use Rattle.entries.proofs.all_zero.Goals as goal
 

@@ -1,7 +1,5 @@
 -- `entries::entry_ok` meets its contract: key, side, both homes and the entries behind, in the order of the rules. Assumes nothing.
 use mathlib.Core.Path.{sym, ◌∙◌}
-use borrow.Author.Rules.{rules}
-use borrow.Author.Tests.{not-true, not-false}
 use Rattle.entries.proofs.Queue.{bad_key, bad_side, in_first, in_second, in_no_cell}
 use Rattle.layout.specs.Memory.{cells_in}
 use Rattle.entries.proofs.entry_ok.Goals as goal
@@ -23,14 +21,14 @@ returns-then-is_held c m h =
     let a = c.args in
     in_first m a.f.r a.n a.j a.t0.now a.t1.now a.queue.now
     (sym c.is_key.ensures ∙ c.if-not-is_key.false) c.if-queue-j-gt1.false
-    (sym (c.is_held_lem.ensures m (cells_in a.f.r a.t1.now) h) ∙ c.if-is_held.true)
+    (sym (c.is_held.ensures m (cells_in a.f.r a.t1.now) h) ∙ c.if-is_held.true)
 
 pub returns-then-is_held-2 : goal.returns-then-is_held-2
 returns-then-is_held-2 c m h =
     let a = c.args in
     in_second m a.f.r a.n a.j a.t0.now a.t1.now a.queue.now
     (sym c.is_key.ensures ∙ c.if-not-is_key.false) c.if-queue-j-gt1.false
-    (sym (c.is_held_lem.ensures m (cells_in a.f.r a.t1.now) h) ∙ c.if-is_held.false)
+    (sym (c.is_held.ensures m (cells_in a.f.r a.t1.now) h) ∙ c.if-is_held.false)
     (sym (c.is_held-2.ensures m (cells_in a.f.r a.t0.now) h) ∙ c.if-is_held-2.true)
 
 pub returns : goal.returns
@@ -38,5 +36,5 @@ returns c m h =
     let a = c.args in
     in_no_cell m a.f.r a.n a.j a.t0.now a.t1.now a.queue.now
     (sym c.is_key.ensures ∙ c.if-not-is_key.false) c.if-queue-j-gt1.false
-    (sym (c.is_held_lem.ensures m (cells_in a.f.r a.t1.now) h) ∙ c.if-is_held.false)
+    (sym (c.is_held.ensures m (cells_in a.f.r a.t1.now) h) ∙ c.if-is_held.false)
     (sym (c.is_held-2.ensures m (cells_in a.f.r a.t0.now) h) ∙ c.if-is_held-2.false) c.waits_from.result c.waits_from.ensures

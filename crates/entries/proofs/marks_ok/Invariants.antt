@@ -1,13 +1,9 @@
 -- `entries::marks_ok` meets its contract: the pairs pass exactly if those from place j on do. The measure is n - j. Assumes nothing.
 use Prim.Native.Nat.{◌-◌, ◌≤◌}
-use mathlib.Core.Path.{◌≡◌, sym, ◌∙◌}
-use native.Mathlib.Omega.{arith}
-use native.Mathlib.Nat.{sub-zero}
-use borrow.Author.Rules.{rules}
-use borrow.Author.Tests.{not-true, not-false}
+use mathlib.Core.Path.{◌≡◌}
 use Rattle.rules.specs.Check.{marks_ok}
 use Rattle.layout.specs.Memory.{pairs_in}
-use Rattle.entries.proofs.Queue.{pairs_from, pair_bad, pair-good, marks_end}
+use Rattle.entries.proofs.Queue.{pairs_from}
 use Rattle.entries.proofs.marks_ok.Given as goal
 
 abbrev pub invariant-loop-j : goal.invariant-loop-j

@@ -1,15 +1,11 @@
 -- `entries::queue_ok` meets its contract: the entries pass exactly if those from place j on do. The measure is n - j. Assumes nothing.
 use Prim.Native.Nat.{◌-◌, ◌≤◌}
-use mathlib.Core.Path.{◌≡◌, sym, ◌∙◌}
-use native.Mathlib.Omega.{arith}
-use native.Mathlib.Nat.{sub-zero}
-use borrow.Author.Rules.{rules}
-use borrow.Author.Tests.{not-true, not-false}
+use mathlib.Core.Path.{◌≡◌}
 use Rattle.rules.specs.Store.{table_0, Numbers}
 use Rattle.rules.specs.Check.{queue_ok}
 use Rattle.layout.specs.Memory.{cells_in, entries_in, homes_of}
 use Rattle.steps.specs.Shape.{with_table}
-use Rattle.entries.proofs.Queue.{entries_from, entry_bad, entry-good, queue_end}
+use Rattle.entries.proofs.Queue.{entries_from}
 use Rattle.entries.proofs.queue_ok.Given as goal
 
 abbrev pub invariant-loop-j : goal.invariant-loop-j

@@ -1,6 +1,5 @@
 -- `entries::waits_from` meets its contract: a place below the count is found exactly if the key waits. Assumes nothing.
 use Prim.Native.Nat.{◌-◌, ◌*◌}
-use borrow.Author.Rules.{rules}
 use Rattle.entries.proofs.Queue.{waits}
 use Rattle.entries.proofs.waits_from.Goals as goal
 

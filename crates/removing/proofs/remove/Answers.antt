@@ -4,7 +4,6 @@ use mathlib.Core.List.{[]}
 use native.Mathlib.Omega.{arith}
 use Rattle.finding.proofs.Searching.{located_as}
 use Rattle.removing.proofs.Removing.{bad_key, good-key, refuses_bad, refuses-absent, removes-first, removes-second, removes-waiting}
-use borrow.Author.Rules.{rules}
 use Rattle.removing.proofs.remove.Goals as goal
 
 pub returns-then-not-is_key : goal.returns-then-not-is_key
@@ -12,21 +11,21 @@ returns-then-not-is_key c =
     let a = c.args in
     refuses_bad a.f a.c a.x a.t0.now a.t1.now a.queue.now a.detector.now (bad_key _ c.is_key.ensures (ap not c.if-not-is_key.true)) c.reply.ensures
 
-pub remove_cell-requires : goal.remove_cell-requires
-remove_cell-requires c =
-    let h = (located_as (c.search-s.ensures []).at c.p-1.given.1).within in
+pub remove_cell-requires-clause-i_in_bounds : goal.remove_cell-requires-clause-i_in_bounds
+remove_cell-requires-clause-i_in_bounds c =
+    let h = (located_as (c.search-s.ensures []).at c.in-Table0.is).within in
     let s = c.requires in
-    (omega arith, s.rooms)
+    omega arith
 
-pub remove_cell-requires-in-Table1 : goal.remove_cell-requires-in-Table1
-remove_cell-requires-in-Table1 c =
-    let h = (located_as (c.search-s.ensures []).at c.p-in-Table1-1.given.1).within in
+pub remove_cell-requires-in-Table1-clause-i_in_bounds : goal.remove_cell-requires-in-Table1-clause-i_in_bounds
+remove_cell-requires-in-Table1-clause-i_in_bounds c =
+    let h = (located_as (c.search-s.ensures []).at c.in-Table1.is).within in
     let s = c.requires in
-    (omega arith, s.rooms)
+    omega arith
 
-pub remove_waiting-requires : goal.remove_waiting-requires
-remove_waiting-requires c =
-    ((located_as (c.search-s.ensures []).at c.p-in-Waiting-1.given.1).within, c.requires.rooms)
+pub remove_waiting-requires-clause-j_bound : goal.remove_waiting-requires-clause-j_bound
+remove_waiting-requires-clause-j_bound c =
+    (located_as (c.search-s.ensures []).at c.in-Waiting.is).within
 
 pub returns-in-Table0 : goal.returns-in-Table0
 returns-in-Table0 c =
@@ -34,7 +33,7 @@ returns-in-Table0 c =
     let a = s.args in
     let good = good-key _ c.is_key.ensures (ap not c.if-not-is_key.false) in
     removes-first a.f a.c a.x a.t0.now a.t1.now a.queue.now a.detector.now good s.requires
-    (located_as (c.search-s.ensures a.detector.now).at c.p-1.given.1) c.remove_cell.ensures
+    (located_as (c.search-s.ensures a.detector.now).at c.in-Table0.is) c.remove_cell.ensures
 
 pub returns-in-Table1 : goal.returns-in-Table1
 returns-in-Table1 c =
@@ -42,7 +41,7 @@ returns-in-Table1 c =
     let a = s.args in
     let good = good-key _ c.is_key.ensures (ap not c.if-not-is_key.false) in
     removes-second a.f a.c a.x a.t0.now a.t1.now a.queue.now a.detector.now good s.requires
-    (located_as (c.search-s.ensures a.detector.now).at c.p-in-Table1-1.given.1) c.remove_cell-in-Table1.ensures
+    (located_as (c.search-s.ensures a.detector.now).at c.in-Table1.is) c.remove_cell-in-Table1.ensures
 
 pub returns-in-Waiting : goal.returns-in-Waiting
 returns-in-Waiting c =
@@ -50,7 +49,7 @@ returns-in-Waiting c =
     let a = s.args in
     let good = good-key _ c.is_key.ensures (ap not c.if-not-is_key.false) in
     removes-waiting a.f a.c a.x a.t0.now a.t1.now a.queue.now a.detector.now good s.requires
-    (located_as (c.search-s.ensures a.detector.now).at c.p-in-Waiting-1.given.1) c.remove_waiting.ensures
+    (located_as (c.search-s.ensures a.detector.now).at c.in-Waiting.is) c.remove_waiting.ensures
 
 pub returns-in-Nowhere : goal.returns-in-Nowhere
 returns-in-Nowhere c =
@@ -58,4 +57,4 @@ returns-in-Nowhere c =
     let a = s.args in
     let good = good-key _ c.is_key.ensures (ap not c.if-not-is_key.false) in
     refuses-absent a.f a.c a.x a.t0.now a.t1.now a.queue.now a.detector.now good
-    (located_as (c.search-s.ensures a.detector.now).at c.enum_told-1.given.1) c.reply-in-Nowhere.ensures
+    (located_as (c.search-s.ensures a.detector.now).at c.in-Nowhere.is) c.reply-in-Nowhere.ensures

@@ -1,6 +1,5 @@
 -- `removing::remove_waiting` meets its contract: the words tidied are packed, and in packed words the entry's gap is closed. Assumes nothing.
 use Rattle.removing.proofs.Removing.{entry_gone}
-use borrow.Author.Rules.{rules}
 use Rattle.removing.proofs.remove_waiting.Goals as goal
 
 pub returns : goal.returns

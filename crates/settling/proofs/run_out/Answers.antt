@@ -1,9 +1,6 @@
 -- `settling::run_out` meets its contract: the words of a run are its outcome. Assumes nothing.
-use native.Mathlib.Omega.{arith}
 use Rattle.layout.specs.Memory.{lent}
-use Rattle.finding.proofs.Fits.{tables-ready}
 use Rattle.settling.proofs.Lying.{runs_with, ran_out}
-use borrow.Author.Rules.{rules}
 use Rattle.settling.proofs.run_out.Goals as goal
 
 pub returns : goal.returns
@@ -13,4 +10,4 @@ returns c =
     let m = lent a.t0.now a.t1.now a.queue.now a.detector.now in
     let fit = s.requires.fit_in in
     let ran = c.run_steps-e in
-    ran_out a.f a.c m fit a.budget _ _ _ _ _ (ran.ensures _ (runs_with a.f a.c m fit a.budget)) ran.auto.1.1.1.1.1.0 ran.auto.1.1.1.1.1.1.0 c.of.ensures
+    ran_out a.f a.c m fit a.budget _ _ _ _ _ (ran.ensures _ (runs_with a.f a.c m fit a.budget)) ran.auto.t0 ran.auto.t1 c.of.ensures

