@@ -1,0 +1,30 @@
+-- `store::Control::find` meets its contract: refusals 1 to 3, else what `finding::find` gives. Assumes nothing.
+use mathlib.Core.Path.{ap}
+use Rattle.rules.specs.Calls.{find}
+use Rattle.layout.specs.Memory.{lent}
+use Rattle.finding.specs.Inner.{outcome as inner}
+use Rattle.finding.proofs.Fits.{tables-ready, queue_bounds}
+use Rattle.store.specs.Calls.{found}
+use Rattle.store.proofs.Carrying.{refused_by, fits_by, keeps_by}
+use Rattle.store.proofs.Control.find.Goals as goal
+
+pub returns-then-k-ne0 : goal.returns-then-k-ne0
+unfolding found
+returns-then-k-ne0 c =
+    let a = c.args in
+    let m = lent a.t0.now a.t1.now a.queue.now a.detector.now in
+    refused_by a.self m c.functions-f.ensures c.rooms-c.ensures c.fault-k.ensures _ c.if-k-ne0.true c.reply.ensures
+
+pub find-requires : goal.find-requires
+find-requires c =
+    let a = c.args in
+    let m = lent a.t0.now a.t1.now a.queue.now a.detector.now in
+    let fit = fits_by a.self m c.functions-f.ensures c.rooms-c.ensures c.fault-k.ensures c.if-k-ne0.false in
+    record { tables_ready = tables-ready _ _ m fit; queue_len_in_bounds = queue_bounds _ _ m fit }
+
+pub returns : goal.returns
+unfolding found
+returns c =
+    let a = c.args in
+    let m = lent a.t0.now a.t1.now a.queue.now a.detector.now in
+    keeps_by a.self m c.functions-f.ensures c.rooms-c.ensures c.fault-k.ensures c.if-k-ne0.false c.after.ensures (λ n s. (find n a.x s).answer) (ap (inner m) (c.find.ensures a.detector.now))
