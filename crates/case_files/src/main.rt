@@ -8,8 +8,13 @@ fn case_of(rt: &HostRuntime, path: &str) -> io::Result<()> {
     let mut out = rt.stdout();
     out.write_all(path.as_bytes())?;
     out.write_all(b"\n")?;
-    let mut file = fs::open(rt, path)?;
-    session::run(&mut file, &mut out)
+    match fs::open(rt, path) {
+        Ok(mut file) => session::run(&mut file, &mut out),
+        Err(e) => {
+            eprintln!(rt; "{path}: {e}")?;
+            Ok(())
+        }
+    }
 }
 
 fn main(rt: HostRuntime) -> io::Result<()> {

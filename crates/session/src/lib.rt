@@ -30,7 +30,7 @@ fn bad<W: Write>(out: &mut W, place: u64) -> io::Result<()> {
 }
 
 // Store S.
-#[derive(Drop)]
+#[derive(Clone, Copy)]
 pub struct Bench {
     pub c: Control,
     pub t0: [u32; 8],

@@ -1,4 +1,5 @@
 -- `adding::join` meets its contract: the words that `tidy` leaves hold the same store; with the entry behind they are ready and hold the joined store, so
+-- `run_out` runs from there. Assumes nothing.
 use Rattle.adding.proofs.Defining.{joined-ready, joined-runs}
 use Rattle.settling.proofs.Lying.{tidied_fit, tidied-ready, tidied-store}
 use Rattle.adding.proofs.join.Goals as goal

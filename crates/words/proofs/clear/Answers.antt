@@ -1,3 +1,4 @@
+-- `words::clear` meets its contract: the cleared words grow by one zero. Assumes nothing.
 use Rattle.std.proofs.Common.{arith}
 use Rattle.words.proofs.Laws.{clear_none, clear_more}
 use Rattle.words.proofs.clear.Goals as goal

@@ -1,3 +1,4 @@
+-- `words::close_gap` meets its contract: the words moved up, then cleared, are those of the closed gap. Assumes nothing.
 use Rattle.std.proofs.Common.{◌∙◌}
 use Rattle.words.proofs.Laws.{closes}
 use Rattle.words.proofs.close_gap.Goals as goal

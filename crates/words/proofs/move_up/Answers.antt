@@ -1,3 +1,4 @@
+-- `words::move_up` meets its contract: one word more has moved up. Assumes nothing.
 use Rattle.std.proofs.Common.{arith}
 use Rattle.words.proofs.Laws.{move-more}
 use Rattle.words.proofs.move_up.Goals as goal
