@@ -5,7 +5,7 @@
   tools/names.py --list     prints what would be renamed, and which names would fall together
 
 Words are in snake case and types in camel case. A dash stays where it joins the names of two functions, as in length-packed; else it becomes `_`.
-Names of the code keep their spelling: none has a capital behind its first letter or a dash."""
+Names of the code keep their spelling: none has a capital behind its first letter or a dash. Run again, it finds nothing to do."""
 import collections
 import pathlib
 import re
@@ -13,13 +13,26 @@ import sys
 
 ROOT = pathlib.Path(__file__).resolve().parent.parent
 MARKS = r"(?:(?:abbrev|unfoldable|pub)\s+)*"
+FUNCTION = re.compile(r"^\s*(?:pub )?(?:abbrev|unfoldable) (?:pub )?([a-z][\w'\-]*) :(?= |$)")
 DECLARED = re.compile(rf"^\s*{MARKS}((?:[\w'\-]+)(?: [\w'\-]+)*) :(?= |$)")
 NAMED_TYPE = re.compile(rf"^\s*{MARKS}(?:data|record) ([\w'\-]+)")
 TOKEN = re.compile(r"(?<![\w'\-])[A-Za-z][\w'\-]*")
 # Words of the library that a lemma's name may begin or end with.
 LIBRARY = {"append", "drop", "take", "length", "set", "sets", "map", "replicate", "reverse", "get_or"}
-# Facts that began with a small letter, and names that would fall together with another.
-BY_HAND = {"inside": "IsInside", "isTable0": "IsTable0", "goes_on": "goes_on_lem", "value_in": "value_in_lem", "all-zero": "all_zero_lem"}
+# A fact that began with a small letter, and lemmas and fields that would fall together with a definition.
+BY_HAND = {
+    "inside": "IsInside",
+    "isTable0": "IsTable0",
+    "all-zero": "all_zero_lem",
+    "free-cell": "free_value",
+    "good-key": "good_key_lem",
+    "same-table": "same_table_lem",
+    "search-queue": "search_queue_lem",
+}
+# The same for lemmas whose names the kit's script had turned before.
+LEMMAS = {"goes_on": ("goesOn", "goes_on_lem"), "value_in": ("valueIn", "value_in_lem")}
+# Plain words, which a file may also use for something else: turned only where the file declares or imports the definition.
+PLAIN = {"inside"}
 
 
 def logic():
@@ -27,16 +40,20 @@ def logic():
 
 
 def declared():
-    """The declared names, each with the files that declare it. A walk of a function (Proof.antt) declares none of its own."""
+    """The declared names, each with the files that declare it, and the functions among them. What proves a function of the code declares none of its own."""
     found = collections.defaultdict(set)
+    functions = set()
     for path in logic():
-        if path.name == "Proof.antt":
+        if path.name in {"Proof.antt", "Answers.antt", "Invariants.antt"}:
             continue
         for line in path.read_text().splitlines():
+            functions.update(FUNCTION.findall(line))
+            for alias in re.findall(r" as ([\w'\-]+)", line if line.startswith("use ") else ""):
+                found[alias].add(path.relative_to(ROOT).as_posix())
             for match in (DECLARED.match(line), NAMED_TYPE.match(line)):
                 for name in match.group(1).split() if match else []:
                     found[name].add(path.relative_to(ROOT).as_posix())
-    return found
+    return found, functions
 
 
 def snake(word):
@@ -55,17 +72,22 @@ def renamed(name, functions):
 
 
 def table():
-    names = declared()
-    functions = {snake(n) for n in names if "-" not in n} | LIBRARY
-    return {n: renamed(n, functions) for n in names if renamed(n, functions) != n}, names
+    names, functions = declared()
+    functions = {snake(n) for n in functions if "-" not in n} | LIBRARY
+    new = {n: renamed(n, functions) for n in names if renamed(n, functions) != n}
+    new.update({lemma: to for lemma, (definition, to) in LEMMAS.items() if definition in names})
+    return new, names
 
 
 def in_logic(text, names):
-    """A file of antt, or a line of one: everywhere but in a path that begins at a walk's record."""
+    """A file of antt, or a line of one: everywhere but at the names that the check makes, the first step of a path and a goal."""
     def turn(match):
-        path = re.search(r"[\w'\-.]*$", text[max(0, match.start() - 300):match.start()]).group(0)
-        return match.group(0) if re.match(r"(c|l|tie|goal)\.", path) else names.get(match.group(0), match.group(0))
+        made = re.search(r"(?<![\w'\-.])(?:c|l|tie|goal)\.\Z", text[max(0, match.start() - 9):match.start()])
+        return match.group(0) if made else names.get(match.group(0), match.group(0))
 
+    for plain in PLAIN & names.keys():
+        if not re.search(rf"^(use .*|{MARKS}){plain}\b", text, re.M):
+            names = {old: new for old, new in names.items() if old != plain}
     return TOKEN.sub(turn, text)
 
 

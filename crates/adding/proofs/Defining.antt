@@ -28,7 +28,7 @@ use Rattle.finding.specs.Inner.{numbers_of, store_of, with_lens, Outcome, outcom
 use Rattle.finding.specs.declared.Seen.{Seen}
 use Rattle.finding.proofs.Searching.{held}
 use Rattle.settling.specs.Ran.{ran_outcome}
-use Rattle.settling.proofs.Lying.{held_fit, held-ready}
+use Rattle.settling.proofs.Lying.{held_fit, held_ready}
 
 -- the entry (x, v, 0) put behind those that wait
 module _ (f : Functions) (c : Rooms) (x v : ℕ) (t0 t1 q d q' : List ℕ) (more : c.queue_len < c.queue_room) (fit : FitIn f c (lent t0 t1 q d))
@@ -50,13 +50,13 @@ module _ (f : Functions) (c : Rooms) (x v : ℕ) (t0 t1 q d q' : List ℕ) (more
   pub joined_fit : FitIn f longer (lent t0 t1 q' d)
   joined_fit = held_fit f c (c.queue_len + 1) t0 t1 q d q' d (joined x v (store_of f c (lent t0 t1 q d))) fit (omega arith) joined_holds
 
-  pub joined-ready : Ready (c.queue_len + 1) c.detector_len q' d
-  joined-ready = held-ready f c (c.queue_len + 1) t0 t1 q d q' d (joined x v (store_of f c (lent t0 t1 q d))) fit (omega arith) joined_holds
+  pub joined_ready : Ready (c.queue_len + 1) c.detector_len q' d
+  joined_ready = held_ready f c (c.queue_len + 1) t0 t1 q d q' d (joined x v (store_of f c (lent t0 t1 q d))) fit (omega arith) joined_holds
 
-  pub joined-runs : {s : Store} {o : Outcome} → store_of f c (lent t0 t1 q d) ≡ s → o ≡ ran_outcome longer (run (numbers_of f longer) c.step_limit (store_of f longer (lent t0 t1 q' d)))
+  pub joined_runs : {s : Store} {o : Outcome} → store_of f c (lent t0 t1 q d) ≡ s → o ≡ ran_outcome longer (run (numbers_of f longer) c.step_limit (store_of f longer (lent t0 t1 q' d)))
       → o ≡ ran_outcome c (run (numbers_of f c) c.step_limit (joined x v s))
   unfolding words_in
-  joined-runs is e = e ∙ ap (λ s. ran_outcome c (run (numbers_of f c) c.step_limit s)) (holds_store joined_holds ∙ ap (joined x v) is)
+  joined_runs is e = e ∙ ap (λ s. ran_outcome c (run (numbers_of f c) c.step_limit s)) (holds_store joined_holds ∙ ap (joined x v) is)
 
 -- define, by what the search finds: number and value are find's answer to it
 module _ (n : Numbers) (x v : ℕ) (s : Store) where
@@ -73,10 +73,10 @@ module _ (n : Numbers) (x v : ℕ) (s : Store) where
     define-held none e says h = absurd (let k : number ≡ 7 = ap (λ (a : Answer). a.number) says in omega arith)
     define-held (some u) e says h = rw (ap (λ (a : Answer). a.value) says) (simp (good, e))
 
-    define-new : (w : Option ℕ) → lookup n x s ≡ w → answer number value 0 0 ≡ reply_of w → number ≢ 0 → define n x v s ≡ placed
+    define_new : (w : Option ℕ) → lookup n x s ≡ w → answer number value 0 0 ≡ reply_of w → number ≢ 0 → define n x v s ≡ placed
     unfolding define
-    define-new none e says h = simp (good, e)
-    define-new (some u) e says h = absurd (h (ap (λ (a : Answer). a.number) says))
+    define_new none e says h = simp (good, e)
+    define_new (some u) e says h = absurd (h (ap (λ (a : Answer). a.number) says))
 
 -- the same of words, k being the code's test of the key
 module _ (f : Functions) (c : Rooms) (x v : ℕ) (t0 t1 q d : List ℕ) {k : Bool} (test : k ≡ good_key x) where
@@ -91,9 +91,9 @@ module _ (f : Functions) (c : Rooms) (x v : ℕ) (t0 t1 q d : List ℕ) {k : Boo
   refuses_bad bad e = ap (outcome m) e ∙ sym (ap (leaves c m) (define_bad (numbers_of f c) x v (store_of f c m) (sym test ∙ not-true k bad)))
 
   module _ (good : not k ≡ false) {s : Seen} (sees : Sees f c x m s) where
-    pub refuses-held : {a : Told} → s.number ≡ 0 → a ≡ answered c (answer 5 s.value 0 0) → Defines (outcome m a)
+    pub refuses_held : {a : Told} → s.number ≡ 0 → a ≡ answered c (answer 5 s.value 0 0) → Defines (outcome m a)
     unfolding leaves
-    refuses-held h e =
+    refuses_held h e =
         ap (outcome m) e
         ∙ sym (ap (leaves c m) (define-held (numbers_of f c) x v (store_of f c m) (sym test ∙ not-false k good) s.number s.value _ (held test good sees.at) sees.says h))
 
@@ -104,12 +104,12 @@ module _ (f : Functions) (c : Rooms) (x v : ℕ) (t0 t1 q d : List ℕ) {k : Boo
       placed_at : (b : Bool) → leb c.queue_room (length (entries_in c.queue_len q)) ≡ b
           → define (numbers_of f c) x v (store_of f c m) ≡ refuse_if b 6 (store_of f c m) (accepted_run (run (numbers_of f c) c.step_limit (joined x v (store_of f c m))))
       placed_at b e =
-          define-new (numbers_of f c) x v (store_of f c m) (sym test ∙ not-false k good) s.number s.value _ (held test good sees.at) sees.says absent
+          define_new (numbers_of f c) x v (store_of f c m) (sym test ∙ not-false k good) s.number s.value _ (held test good sees.at) sees.says absent
           ∙ ap (λ z. refuse_if z 6 (store_of f c m) (accepted_run (run (numbers_of f c) c.step_limit (joined x v (store_of f c m))))) e
 
-      pub refuses-full : {a : Told} → c.queue_room ≤ c.queue_len → a ≡ answered c (answer 6 0 0 0) → Defines (outcome m a)
+      pub refuses_full : {a : Told} → c.queue_room ≤ c.queue_len → a ≡ answered c (answer 6 0 0 0) → Defines (outcome m a)
       unfolding leaves
-      refuses-full l e = ap (outcome m) e ∙ sym (ap (leaves c m) (placed_at true (le-leb c.queue_room (length (entries_in c.queue_len q)) (omega (arith, waits)))))
+      refuses_full l e = ap (outcome m) e ∙ sym (ap (leaves c m) (placed_at true (le-leb c.queue_room (length (entries_in c.queue_len q)) (omega (arith, waits)))))
 
       pub defines : {o : Outcome} → c.queue_len < c.queue_room → o ≡ ran_outcome c (run (numbers_of f c) c.step_limit (joined x v (store_of f c m))) → Defines o
       unfolding leaves

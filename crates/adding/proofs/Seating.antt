@@ -14,12 +14,12 @@ use Rattle.rules.specs.Store.{table_0, Cell, cell_at, Store, Numbers}
 use Rattle.rules.specs.Step.{landed, done, step_at, step_from, step}
 use Rattle.rules.specs.Run.{ran, counted, run}
 use Rattle.rules.specs.Calls.{joined}
-use Rattle.rules.proofs.Runs.{run-idle, run_more}
+use Rattle.rules.proofs.Runs.{run_idle, run_more}
 use Rattle.layout.specs.Forms.{cell_form, entry_form, pair_form, read_many, write_many, packed}
 use Rattle.layout.specs.Memory.{lent, words_in, Tidied, cells_in, entries_in}
-use Rattle.layout.proofs.Forms.{cell_lawful, length-read_many, write-all, write-set}
+use Rattle.layout.proofs.Forms.{cell_lawful, length-read_many, write_all, write_set}
 use Rattle.kinds.specs.Shape.{entry}
-use Rattle.steps.proofs.InTable.{cell-read}
+use Rattle.steps.proofs.InTable.{cell_read}
 use Rattle.finding.specs.Inner.{numbers_of, store_of, outcome, FitIn, Told, tells}
 use Rattle.settling.specs.Ran.{ran_outcome}
 
@@ -40,13 +40,13 @@ module _ (n : Numbers) (x v : ℕ) (s : Store) (none : s.waiting ≡ []) (free :
   seats (suc b) some =
       run_more n b (joined x v s) (entry x v 0) [] alone
       ∙ ap (λ t. counted t.kind (run n b t.store)) one_step
-      ∙ ap (counted 1) (run-idle n b seated refl)
+      ∙ ap (counted 1) (run_idle n b seated refl)
 
 -- the same of words
-cell-written : (r i x v : ℕ) (t : List ℕ) → length t ≡ 2 * r → i < r → sets t (2 * i) (x ∷ v ∷ []) ≡ write_many cell_form (set (cells_in r t) i (record { key = x; value = v }))
-cell-written r i x v t size h =
-    ap (λ ws. sets ws (2 * i) (x ∷ v ∷ [])) (sym (write-all cell_form cell_lawful r t size))
-    ∙ sym (write-set cell_form cell_lawful (cells_in r t) i (record { key = x; value = v }) (omega (arith, length-read_many cell_form r t)))
+cell_written : (r i x v : ℕ) (t : List ℕ) → length t ≡ 2 * r → i < r → sets t (2 * i) (x ∷ v ∷ []) ≡ write_many cell_form (set (cells_in r t) i (record { key = x; value = v }))
+cell_written r i x v t size h =
+    ap (λ ws. sets ws (2 * i) (x ∷ v ∷ [])) (sym (write_all cell_form cell_lawful r t size))
+    ∙ sym (write_set cell_form cell_lawful (cells_in r t) i (record { key = x; value = v }) (omega (arith, length-read_many cell_form r t)))
 
 module _ (f : Functions) (c : Rooms) (x v : ℕ) (t0 t1 q d : List ℕ) {i : ℕ} (fit : FitIn f c (lent t0 t1 q d)) (none : c.queue_len ≡ 0)
     (home : i ≡ home0 f x) (free : get_or t0 (2 * i) 0 ≡ 0) where
@@ -57,15 +57,15 @@ module _ (f : Functions) (c : Rooms) (x v : ℕ) (t0 t1 q d : List ℕ) {i : ℕ
   unfolding read_many
   waits_none = ap (λ k. read_many entry_form k q) none
 
-  free-home : (cell_at (store_of f c (lent t0 t1 q d)).tables table_0 (home0 f x)).key ≡ 0
-  free-home = rw (sym home) (ap (λ (e : Cell). e.key) (cell-read f.r i t0 inside) ∙ free)
+  free_home : (cell_at (store_of f c (lent t0 t1 q d)).tables table_0 (home0 f x)).key ≡ 0
+  free_home = rw (sym home) (ap (λ (e : Cell). e.key) (cell_read f.r i t0 inside) ∙ free)
 
   pub seated_at_once : {t q' d' : List ℕ} {a : Told} → t ≡ sets t0 (2 * i) (x ∷ v ∷ []) → Tidied 0 0 q d q' d' → a ≡ tells 0 0 0 0 1 0
       → outcome (lent t t1 q' d') a ≡ ran_outcome c (run (numbers_of f c) c.step_limit (joined x v (store_of f c (lent t0 t1 q d))))
   unfolding words_in read_many
   seated_at_once e tidy is =
-      (λ j. outcome (lent ((e ∙ cell-written f.r i x v t0 fit.first inside ∙ ap (λ k. write_many cell_form (set (cells_in f.r t0) k (record { key = x; value = v }))) home) j)
-      (sym (write-all cell_form cell_lawful f.r t1 fit.second) j)
+      (λ j. outcome (lent ((e ∙ cell_written f.r i x v t0 fit.first inside ∙ ap (λ k. write_many cell_form (set (cells_in f.r t0) k (record { key = x; value = v }))) home) j)
+      (sym (write_all cell_form cell_lawful f.r t1 fit.second) j)
       ((tidy.queue ∙ ap (λ k. packed entry_form k []) fit.rooms.queue) j) ((tidy.detector ∙ ap (λ k. packed pair_form k []) fit.rooms.detector) j))
       (is j))
-      ∙ ap (ran_outcome c) (sym (seats (numbers_of f c) x v (store_of f c (lent t0 t1 q d)) waits_none free-home c.step_limit fit.limit_some))
+      ∙ ap (ran_outcome c) (sym (seats (numbers_of f c) x v (store_of f c (lent t0 t1 q d)) waits_none free_home c.step_limit fit.limit_some))

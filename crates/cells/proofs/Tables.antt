@@ -20,7 +20,7 @@ use Rattle.layout.specs.Memory.{cells_in, homes_of}
 use Rattle.layout.specs.Forms.{cell_form, read_many}
 use Rattle.layout.proofs.Forms.{read_from, read_none}
 use Rattle.steps.specs.Shape.{with_table}
-use Rattle.steps.proofs.InTable.{cell_in, cell-read}
+use Rattle.steps.proofs.InTable.{cell_in, cell_read}
 
 -- the cell at place i
 abbrev pub cell_of : List ℕ → ℕ → Cell
@@ -43,15 +43,15 @@ module _ (f : Functions) where
   held b x i t l e n o h =
       let at_home : n.home (meant b) x ≡ i = ap (λ (g : Table → ℕ → ℕ). g (meant b) x) h ∙ sym e in
       let here : cell_at (with_table (meant b) (cells_in f.r t) o) (meant b) (n.home (meant b) x) ≡ cell_of t i =
-      ap (cell_at (with_table (meant b) (cells_in f.r t) o) (meant b)) at_home ∙ cell_in (meant b) (cells_in f.r t) o i ∙ cell-read f.r i t l in
+      ap (cell_at (with_table (meant b) (cells_in f.r t) o) (meant b)) at_home ∙ cell_in (meant b) (cells_in f.r t) o i ∙ cell_read f.r i t l in
       ap (λ (c : Cell). eqb c.key x) (sym here)
 
 -- the other table's key, of tables that are the same two the other way round
-twin-held : (n : Numbers) (b x : ℕ) (cs o : List Cell) (w : Bool) → b ≤ 1
+twin_held : (n : Numbers) (b x : ℕ) (cs o : List Cell) (w : Bool) → b ≤ 1
     → w ≡ is_held n (with_table (meant (1 - b)) o cs) (meant (1 - b)) x → w ≡ is_held n (with_table (meant b) cs o) (other (meant b)) x
-twin-held n zero x cs o w l e = e
-twin-held n (suc zero) x cs o w l e = e
-twin-held n (suc (suc b)) x cs o w l e = absurd (omega arith)
+twin_held n zero x cs o w l e = e
+twin_held n (suc zero) x cs o w l e = e
+twin_held n (suc (suc b)) x cs o w l e = absurd (omega arith)
 
 module _ (f : Functions) (b i : ℕ) (t u : List ℕ) (n : Numbers) (h : n.home ≡ homes_of f) where
   abbrev both : Tables
@@ -63,12 +63,12 @@ module _ (f : Functions) (b i : ℕ) (t u : List ℕ) (n : Numbers) (h : n.home 
   abbrev key : ℕ
   key = get_or t (2 * i) 0
 
-  home-is : n.home (meant b) key ≡ homes_of f (meant b) key
-  home-is = ap (λ (g : Table → ℕ → ℕ). g (meant b) key) h
+  home_is : n.home (meant b) key ≡ homes_of f (meant b) key
+  home_is = ap (λ (g : Table → ℕ → ℕ). g (meant b) key) h
 
-  pub free-cell : key ≡ 0 → eqb (get_or t (2 * i + 1) 0) 0 ≡ passes
+  pub free_value : key ≡ 0 → eqb (get_or t (2 * i + 1) 0) 0 ≡ passes
   unfolding cell_ok
-  free-cell z = simp (eq-eqb _ _ z)
+  free_value z = simp (eq-eqb _ _ z)
 
   module _ (some : key ≢ 0) where
     pub bad_key : good_key key ≡ false → false ≡ passes
@@ -77,12 +77,12 @@ module _ (f : Functions) (b i : ℕ) (t u : List ℕ) (n : Numbers) (h : n.home 
 
     pub not_home : good_key key ≡ true → homes_of f (meant b) key ≢ i → false ≡ passes
     unfolding cell_ok
-    not_home g away = simp (ne_eqb _ _ some, g, home-is, ne_eqb _ _ away)
+    not_home g away = simp (ne_eqb _ _ some, g, home_is, ne_eqb _ _ away)
 
     pub at_home : good_key key ≡ true → homes_of f (meant b) key ≡ i → b ≤ 1
         → (w : Bool) → w ≡ is_held n (with_table (meant (1 - b)) (cells_in f.r u) (cells_in f.r t)) (meant (1 - b)) key → not w ≡ passes
     unfolding cell_ok
-    at_home g home l w e = simp (ne_eqb _ _ some, g, home-is, eq-eqb _ _ home) (ap not (twin-held n b key (cells_in f.r t) (cells_in f.r u) w l e))
+    at_home g home l w e = simp (ne_eqb _ _ some, g, home_is, eq-eqb _ _ home) (ap not (twin_held n b key (cells_in f.r t) (cells_in f.r u) w l e))
 
 module _ (n : Numbers) (ts : Tables) (t : Table) (r i : ℕ) (ws : List ℕ) where
   cells-step : i < r → cells_ok n ts t i (cells_from r ws i) ≡ cell_ok n ts t i (cell_of ws i) && cells_ok n ts t (i + 1) (cells_from r ws (i + 1))
@@ -92,8 +92,8 @@ module _ (n : Numbers) (ts : Tables) (t : Table) (r i : ℕ) (ws : List ℕ) whe
   pub cell_bad : i < r → cell_ok n ts t i (cell_of ws i) ≡ false → cells_ok n ts t i (cells_from r ws i) ≡ false
   cell_bad l e = simp e at (cells-step l)
 
-  pub cell-good : i < r → cell_ok n ts t i (cell_of ws i) ≡ true → cells_ok n ts t i (cells_from r ws i) ≡ cells_ok n ts t (i + 1) (cells_from r ws (i + 1))
-  cell-good l e = simp e at (cells-step l)
+  pub cell_good : i < r → cell_ok n ts t i (cell_of ws i) ≡ true → cells_ok n ts t i (cells_from r ws i) ≡ cells_ok n ts t (i + 1) (cells_from r ws (i + 1))
+  cell_good l e = simp e at (cells-step l)
 
   pub cells_end : r ≤ i → cells_ok n ts t i (cells_from r ws i) ≡ true
   unfolding cells_ok

@@ -19,23 +19,23 @@ use Rattle.finding.proofs.Searching.{held}
 use Rattle.changing.specs.Change.{put_value, changing, Exchanged}
 
 module _ (n : Numbers) (x v : ℕ) (s : Store) where
-  change-answers : (w : Option ℕ) → good_key x ≡ true → lookup n x s ≡ w → (change n x v s).answer ≡ reply_of w
+  change_answers : (w : Option ℕ) → good_key x ≡ true → lookup n x s ≡ w → (change n x v s).answer ≡ reply_of w
   unfolding change
-  change-answers (some h) g e = simp (g, e)
-  change-answers none g e = simp (g, e)
+  change_answers (some h) g e = simp (g, e)
+  change_answers none g e = simp (g, e)
 
-  change-refuses : good_key x ≡ false → (change n x v s).answer ≡ answer 4 0 0 0
+  change_refuses : good_key x ≡ false → (change n x v s).answer ≡ answer 4 0 0 0
   unfolding change
-  change-refuses g = simp g
+  change_refuses g = simp g
 
 -- what a change leaves, by the place that the search answers
-changing-at : (f : Functions) (c : Rooms) (x v : ℕ) (m : Lent) (p : Place) → place_of p ≡ search (numbers_of f c) x (store_of f c m)
+changing_at : (f : Functions) (c : Rooms) (x v : ℕ) (m : Lent) (p : Place) → place_of p ≡ search (numbers_of f c) x (store_of f c m)
     → changing f c x v m (reply_of (value_in m p)) ≡ outcome (put_value (place_of p) v m) (answered c (reply_of (value_in m p)))
 unfolding changing
-changing-at f c x v m (Table0 i) e = rw (sym e)
-changing-at f c x v m (Table1 i) e = rw (sym e)
-changing-at f c x v m (Waiting j) e = rw (sym e)
-changing-at f c x v m Nowhere e = refl
+changing_at f c x v m (Table0 i) e = rw (sym e)
+changing_at f c x v m (Table1 i) e = rw (sym e)
+changing_at f c x v m (Waiting j) e = rw (sym e)
+changing_at f c x v m Nowhere e = refl
 
 -- k is the code's test of the key
 module _ (f : Functions) (c : Rooms) (x v : ℕ) (t0 t1 q d : List ℕ) {k : Bool} (test : k ≡ good_key x) where
@@ -47,21 +47,21 @@ module _ (f : Functions) (c : Rooms) (x v : ℕ) (t0 t1 q d : List ℕ) {k : Boo
 
   pub changes_bad : {a : Told} → not k ≡ true → a ≡ answered c (answer 4 0 0 0) → Changes (outcome m a)
   unfolding changing
-  changes_bad bad e = ap (outcome m) e ∙ rw (change-refuses (numbers_of f c) x v (store_of f c m) (sym test ∙ not-true k bad))
+  changes_bad bad e = ap (outcome m) e ∙ rw (change_refuses (numbers_of f c) x v (store_of f c m) (sym test ∙ not-true k bad))
 
   module _ (good : not k ≡ false) where
-    changes-at : (p : Place) → Located f c x m p → Changes (outcome (put_value (place_of p) v m) (answered c (reply_of (value_in m p))))
-    changes-at p at =
-        sym (ap (changing f c x v m) (change-answers (numbers_of f c) x v (store_of f c m) (value_in m p) (sym test ∙ not-false k good) (held test good at)) ∙ changing-at f c x v m p at.is)
+    changes_at : (p : Place) → Located f c x m p → Changes (outcome (put_value (place_of p) v m) (answered c (reply_of (value_in m p))))
+    changes_at p at =
+        sym (ap (changing f c x v m) (change_answers (numbers_of f c) x v (store_of f c m) (value_in m p) (sym test ∙ not-false k good) (held test good at)) ∙ changing_at f c x v m p at.is)
 
-    pub changes-first : {i : ℕ} {t : List ℕ} {a : Told} → Located f c x m (Table0 i) → Exchanged c 2 i v t0 t a → Changes (outcome (lent t t1 q d) a)
-    changes-first {i} at e = (λ j. outcome (lent (e.words j) t1 q d) (e.answer j)) ∙ changes-at (Table0 i) at
+    pub changes_first : {i : ℕ} {t : List ℕ} {a : Told} → Located f c x m (Table0 i) → Exchanged c 2 i v t0 t a → Changes (outcome (lent t t1 q d) a)
+    changes_first {i} at e = (λ j. outcome (lent (e.words j) t1 q d) (e.answer j)) ∙ changes_at (Table0 i) at
 
-    pub changes-second : {i : ℕ} {t : List ℕ} {a : Told} → Located f c x m (Table1 i) → Exchanged c 2 i v t1 t a → Changes (outcome (lent t0 t q d) a)
-    changes-second {i} at e = (λ j. outcome (lent t0 (e.words j) q d) (e.answer j)) ∙ changes-at (Table1 i) at
+    pub changes_second : {i : ℕ} {t : List ℕ} {a : Told} → Located f c x m (Table1 i) → Exchanged c 2 i v t1 t a → Changes (outcome (lent t0 t q d) a)
+    changes_second {i} at e = (λ j. outcome (lent t0 (e.words j) q d) (e.answer j)) ∙ changes_at (Table1 i) at
 
-    pub changes-waiting : {i : ℕ} {t : List ℕ} {a : Told} → Located f c x m (Waiting i) → Exchanged c 3 i v q t a → Changes (outcome (lent t0 t1 t d) a)
-    changes-waiting {i} at e = (λ j. outcome (lent t0 t1 (e.words j) d) (e.answer j)) ∙ changes-at (Waiting i) at
+    pub changes_waiting : {i : ℕ} {t : List ℕ} {a : Told} → Located f c x m (Waiting i) → Exchanged c 3 i v q t a → Changes (outcome (lent t0 t1 t d) a)
+    changes_waiting {i} at e = (λ j. outcome (lent t0 t1 (e.words j) d) (e.answer j)) ∙ changes_at (Waiting i) at
 
     pub changes_none : {a : Told} → Located f c x m Nowhere → a ≡ answered c (answer 7 0 0 0) → Changes (outcome m a)
-    changes_none at e = ap (outcome m) e ∙ changes-at Nowhere at
+    changes_none at e = ap (outcome m) e ∙ changes_at Nowhere at

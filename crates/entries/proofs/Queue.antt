@@ -26,10 +26,10 @@ in_queue (waiting_at j) = true
 in_queue nowhere = false
 
 -- a key waits exactly if the search finds it
-found-waits : (x j : ℕ) (q : List Entry) → in_queue (search_queue j x q) ≡ waits_in x q
+found_waits : (x j : ℕ) (q : List Entry) → in_queue (search_queue j x q) ≡ waits_in x q
 unfolding search_queue waits_in
-found-waits x j [] = refl
-found-waits x j (e ∷ q) = go (eqb e.key x) (found-waits x (suc j) q)
+found_waits x j [] = refl
+found_waits x j (e ∷ q) = go (eqb e.key x) (found_waits x (suc j) q)
   where
     go : (t : Bool) → in_queue (search_queue (suc j) x q) ≡ waits_in x q → in_queue (cond t (waiting_at j) (search_queue (suc j) x q)) ≡ t || waits_in x q
     go true h = refl
@@ -40,7 +40,7 @@ rest_of : (k : ℕ) (ws : List ℕ) → take (length ws - k) (drop k ws) ≡ dro
 rest_of k ws = take_all (length ws - k) (drop k ws) (omega (arith, length-drop k ws))
 
 pub waits : (x n i k : ℕ) (ws : List ℕ) → FirstPlace x (read_many entry_form n (take (length ws - k) (drop k ws))) n i → ltb i n ≡ waits_in x (read_many entry_form n (drop k ws))
-waits x n i k ws w = go (ltb i n) ∙ ap in_queue w.place ∙ found-waits x 0 _ ∙ ap (λ vs. waits_in x (read_many entry_form n vs)) (rest_of k ws)
+waits x n i k ws w = go (ltb i n) ∙ ap in_queue w.place ∙ found_waits x 0 _ ∙ ap (λ vs. waits_in x (read_many entry_form n vs)) (rest_of k ws)
   where
     go : (t : Bool) → t ≡ in_queue (cond t (waiting_at i) nowhere)
     go true = refl
@@ -90,15 +90,15 @@ module _ (m : Numbers) (ts : Tables) (n j : ℕ) (q : List ℕ) where
   abbrev entry_passes : Bool
   entry_passes = entry_ok m ts (entry_of q j) (entries_from n q (j + 1))
 
-  queue-step : j < n → queue_ok m ts (entries_from n q j) ≡ entry_passes && queue_ok m ts (entries_from n q (j + 1))
+  queue_step : j < n → queue_ok m ts (entries_from n q j) ≡ entry_passes && queue_ok m ts (entries_from n q (j + 1))
   unfolding queue_ok
-  queue-step l = ap (queue_ok m ts) (read_from entry_form n j q l) ∙ simp (get_or-drop, add-zero)
+  queue_step l = ap (queue_ok m ts) (read_from entry_form n j q l) ∙ simp (get_or-drop, add-zero)
 
   pub entry_bad : j < n → entry_passes ≡ false → queue_ok m ts (entries_from n q j) ≡ false
-  entry_bad l e = simp e at (queue-step l)
+  entry_bad l e = simp e at (queue_step l)
 
-  pub entry-good : j < n → entry_passes ≡ true → queue_ok m ts (entries_from n q j) ≡ queue_ok m ts (entries_from n q (j + 1))
-  entry-good l e = simp e at (queue-step l)
+  pub entry_good : j < n → entry_passes ≡ true → queue_ok m ts (entries_from n q j) ≡ queue_ok m ts (entries_from n q (j + 1))
+  entry_good l e = simp e at (queue_step l)
 
   pub queue_end : n ≤ j → queue_ok m ts (entries_from n q j) ≡ true
   unfolding queue_ok
@@ -121,8 +121,8 @@ module _ (y b n k : ℕ) (d : List ℕ) where
   pub no_side : good_key y ≡ true → 1 < b → false ≡ pair_passes y b ps
   no_side g l = simp (g, lt-leb _ _ l)
 
-  pub good-pair : good_key y ≡ true → b ≤ 1 → (w : Bool) → w ≡ is_marked y (meant b) (read_many pair_form n (take (length d - k) (drop k d))) → not w ≡ pair_passes y b ps
-  good-pair g l w e = simp (g, le-leb _ _ l) (ap not (e ∙ ap (λ vs. is_marked y (meant b) (read_many pair_form n vs)) (rest_of k d)))
+  pub good_pair : good_key y ≡ true → b ≤ 1 → (w : Bool) → w ≡ is_marked y (meant b) (read_many pair_form n (take (length d - k) (drop k d))) → not w ≡ pair_passes y b ps
+  good_pair g l w e = simp (g, le-leb _ _ l) (ap not (e ∙ ap (λ vs. is_marked y (meant b) (read_many pair_form n vs)) (rest_of k d)))
 
 module _ (n j : ℕ) (d : List ℕ) where
   abbrev pair_here : Bool
@@ -135,8 +135,8 @@ module _ (n j : ℕ) (d : List ℕ) where
   pub pair_bad : j < n → pair_here ≡ false → marks_ok (pairs_from n d j) ≡ false
   pair_bad l e = simp e at (marks-step l)
 
-  pub pair-good : j < n → pair_here ≡ true → marks_ok (pairs_from n d j) ≡ marks_ok (pairs_from n d (j + 1))
-  pair-good l e = simp e at (marks-step l)
+  pub pair_good : j < n → pair_here ≡ true → marks_ok (pairs_from n d j) ≡ marks_ok (pairs_from n d (j + 1))
+  pair_good l e = simp e at (marks-step l)
 
   pub marks_end : n ≤ j → marks_ok (pairs_from n d j) ≡ true
   unfolding marks_ok

@@ -17,8 +17,8 @@ both a b e = (and-eq-true_iff a b).0 e
 pub record Ranges (f : Functions) (c : Rooms) : Type 0 where
   pub some : 1 ≤ f.r
   pub small : f.r ≤ 32768
-  pub queue-small : c.queue_room ≤ 64
-  pub detector-small : c.detector_room ≤ 128
+  pub queue_small : c.queue_room ≤ 64
+  pub detector_small : c.detector_room ≤ 128
   pub limit_some : 1 ≤ c.step_limit
   pub limit_small : c.step_limit ≤ 64
 
@@ -35,8 +35,8 @@ ranges f c h =
     record {
       some = leb-true _ _ (both (leb 1 f.r) (leb f.r 32768) q.0).0;
       small = leb-true _ _ (both (leb 1 f.r) (leb f.r 32768) q.0).1;
-      queue-small = leb-true _ _ (both (leb 1 c.queue_room) (leb c.queue_room 64) q.1).1;
-      detector-small = leb-true _ _ (both (leb 2 c.detector_room) (leb c.detector_room 128) d.1).1;
+      queue_small = leb-true _ _ (both (leb 1 c.queue_room) (leb c.queue_room 64) q.1).1;
+      detector_small = leb-true _ _ (both (leb 2 c.detector_room) (leb c.detector_room 128) d.1).1;
       limit_some = leb-true _ _ (both (leb 1 c.step_limit) (leb c.step_limit 64) l.1).0;
       limit_small = leb-true _ _ (both (leb 1 c.step_limit) (leb c.step_limit 64) l.1).1;
     }

@@ -16,9 +16,9 @@ module _ {x k o : ℕ} (word : x < 2 ^ 32) (small : o < 2 ^ 32) (wraps : (o + x)
       go zero e = absurd (ne (omega arith))
       go (suc n) e = omega arith
 
-pub product-tells : (k0 k1 x o0 o1 : ℕ) → x < 2 ^ 32 → o0 < 2 ^ 32 → o1 < 2 ^ 32 → (o0 + x) % 2 ^ 32 ≡ k0 → (o1 + x) % 2 ^ 32 ≡ k1
+pub product_tells : (k0 k1 x o0 o1 : ℕ) → x < 2 ^ 32 → o0 < 2 ^ 32 → o1 < 2 ^ 32 → (o0 + x) % 2 ^ 32 ≡ k0 → (o1 + x) % 2 ^ 32 ≡ k1
     → not (eqb (o0 * o1) 0) ≡ is_neither k0 k1 x
-product-tells k0 k1 x o0 o1 word small0 small1 wraps0 wraps1 = go (eqb k0 x) (eqb k1 x) refl refl
+product_tells k0 k1 x o0 o1 word small0 small1 wraps0 wraps1 = go (eqb k0 x) (eqb k1 x) refl refl
   where
     go : (b0 b1 : Bool) → eqb k0 x ≡ b0 → eqb k1 x ≡ b1 → not (eqb (o0 * o1) 0) ≡ not b0 && not b1
     go true b1 e0 e1 = ap not (eq-eqb _ _ (ap (λ n. n * o1) (off_none word small0 wraps0 (eqb-true _ _ e0)) ∙ zero-mul o1))
@@ -32,8 +32,8 @@ neither_is {k0} {k1} {x} e =
     let both = (and-eq-true_iff _ _).0 e in
     (eqb-false k0 x (not-true _ both.0), eqb-false k1 x (not-true _ both.1))
 
-pub other-is : {k0 k1 x : ℕ} → is_neither k0 k1 x ≡ false → k0 ≢ x → k1 ≡ x
-other-is {k0} {k1} {x} e ne = go (eqb k1 x) refl (ap (λ b. not b && not (eqb k1 x)) (sym (ne_eqb k0 x ne)) ∙ e)
+pub other_is : {k0 k1 x : ℕ} → is_neither k0 k1 x ≡ false → k0 ≢ x → k1 ≡ x
+other_is {k0} {k1} {x} e ne = go (eqb k1 x) refl (ap (λ b. not b && not (eqb k1 x)) (sym (ne_eqb k0 x ne)) ∙ e)
   where
     go : (b : Bool) → eqb k1 x ≡ b → not false && not (eqb k1 x) ≡ false → k1 ≡ x
     go true h e' = eqb-true k1 x h

@@ -13,14 +13,14 @@ use Rattle.layout.specs.Forms.{entry_form}
 use Rattle.layout.specs.Places.{FirstPlace}
 use Rattle.layout.proofs.Forms.{read_at}
 use Rattle.steps.specs.Shape.{TablesReady}
-use Rattle.steps.proofs.InTable.{cell-read}
+use Rattle.steps.proofs.InTable.{cell_read}
 use Rattle.layout.specs.Memory.{Lent, entries_in}
 use Rattle.numbers.specs.declared.Rooms.{Rooms}
 use Rattle.finding.specs.declared.Place.{Place}
 use Rattle.finding.specs.declared.Seen.{Seen}
 use Rattle.finding.specs.declared.Place.TheVariants.{Table0, Table1, Waiting, Nowhere}
 use Rattle.finding.specs.Inner.{numbers_of, store_of, answered, place_of, IsInside, Located, value_in, reply_of, is_neither, Sees, SeesInQueue}
-use Rattle.finding.proofs.Distances.{neither_is, other-is}
+use Rattle.finding.proofs.Distances.{neither_is, other_is}
 
 -- the rules' search, by what the homes' cells hold
 module _ (n : Numbers) (x : ℕ) (s : Store) where
@@ -35,9 +35,9 @@ module _ (n : Numbers) (x : ℕ) (s : Store) where
   unfolding search
   search-second ne e = simp (ne_eqb _ _ ne, eq-eqb _ _ e)
 
-  search-queue : key_home table_0 ≢ x → key_home table_1 ≢ x → search n x s ≡ search_queue 0 x s.waiting
+  search_queue_lem : key_home table_0 ≢ x → key_home table_1 ≢ x → search n x s ≡ search_queue 0 x s.waiting
   unfolding search
-  search-queue ne ne' = simp (ne_eqb _ _ ne, ne_eqb _ _ ne')
+  search_queue_lem ne ne' = simp (ne_eqb _ _ ne, ne_eqb _ _ ne')
 
 abbrev seen : Place → ℕ → ℕ → Seen
 seen p number value = record { place = p; number = number; value = value }
@@ -52,14 +52,14 @@ module _ (f : Functions) (c : Rooms) (x : ℕ) (m : Lent) (ready : TablesReady f
     first_in = rw home (home0_in_table f x ready.some)
 
     key-first : key_in table_0 ≡ get_or m.table0 (2 * i) 0
-    key-first = rw home (ap (λ (e : Cell). e.key) (cell-read f.r (home0 f x) m.table0 (home0_in_table f x ready.some)))
+    key-first = rw home (ap (λ (e : Cell). e.key) (cell_read f.r (home0 f x) m.table0 (home0_in_table f x ready.some)))
 
   module _ {j : ℕ} (home : j ≡ home1 f x) where
     pub second_in : j < f.r
     second_in = rw home (home1_in_table f x ready.some)
 
     key-second : key_in table_1 ≡ get_or m.table1 (2 * j) 0
-    key-second = rw home (ap (λ (e : Cell). e.key) (cell-read f.r (home1 f x) m.table1 (home1_in_table f x ready.some)))
+    key-second = rw home (ap (λ (e : Cell). e.key) (cell_read f.r (home1 f x) m.table1 (home1_in_table f x ready.some)))
 
   module _ {i j : ℕ} (home : i ≡ home0 f x) (home' : j ≡ home1 f x) where
     abbrev key0 : ℕ
@@ -77,7 +77,7 @@ module _ (f : Functions) (c : Rooms) (x : ℕ) (m : Lent) (ready : TablesReady f
     pub sees_second : is_neither key0 key1 x ≡ false → key0 ≢ x → Sees f c x m (seen (Table1 j) 0 (get_or m.table1 (2 * j + 1) 0))
     sees_second either not_first = record {
       at = record {
-        is = rw home' (sym (search-second (numbers_of f c) x (store_of f c m) (λ h. not_first (sym (key-first home) ∙ h)) (key-second home' ∙ other-is either not_first)));
+        is = rw home' (sym (search-second (numbers_of f c) x (store_of f c m) (λ h. not_first (sym (key-first home) ∙ h)) (key-second home' ∙ other_is either not_first)));
         within = second_in home';
       };
       says = refl;
@@ -87,7 +87,7 @@ module _ (f : Functions) (c : Rooms) (x : ℕ) (m : Lent) (ready : TablesReady f
     sees_queue absent q =
         let not_in = neither_is absent in record {
           at = record {
-            is = q.is ∙ sym (search-queue (numbers_of f c) x (store_of f c m) (λ h. not_in.0 (sym (key-first home) ∙ h)) (λ h. not_in.1 (sym (key-second home') ∙ h)));
+            is = q.is ∙ sym (search_queue_lem (numbers_of f c) x (store_of f c m) (λ h. not_in.0 (sym (key-first home) ∙ h)) (λ h. not_in.1 (sym (key-second home') ∙ h)));
             within = q.within f;
           };
           says = q.says m.table0 m.table1 m.detector;
@@ -102,20 +102,20 @@ module _ (c : Rooms) (x : ℕ) (q : List ℕ) {k : ℕ} (place : FirstPlace x (e
   sees_none l = record { is = simp (le-ltb _ _ l) at place.place; within = λ f. tt; says = λ t0 t1 d. refl }
 
 value_in_lem : (f : Functions) (c : Rooms) (m : Lent) (p : Place) → IsInside f c p → value_at (place_of p) (store_of f c m) ≡ value_in m p
-value_in_lem f c m (Table0 i) h = ap (λ (e : Cell). some e.value) (cell-read f.r i m.table0 h)
-value_in_lem f c m (Table1 i) h = ap (λ (e : Cell). some e.value) (cell-read f.r i m.table1 h)
+value_in_lem f c m (Table0 i) h = ap (λ (e : Cell). some e.value) (cell_read f.r i m.table0 h)
+value_in_lem f c m (Table1 i) h = ap (λ (e : Cell). some e.value) (cell_read f.r i m.table1 h)
 value_in_lem f c m (Waiting j) h = ap (λ (e : Entry). some e.value) (read_at entry_form c.queue_len j m.queue no_entry h) ∙ simp get_or-drop
 value_in_lem f c m Nowhere h = refl
 
 module _ (n : Numbers) (x : ℕ) (s : Store) where
-  find-answers : (w : Option ℕ) → good_key x ≡ true → lookup n x s ≡ w → (find n x s).answer ≡ reply_of w
+  find_answers : (w : Option ℕ) → good_key x ≡ true → lookup n x s ≡ w → (find n x s).answer ≡ reply_of w
   unfolding find
-  find-answers (some v) g e = simp (g, e)
-  find-answers none g e = simp (g, e)
+  find_answers (some v) g e = simp (g, e)
+  find_answers none g e = simp (g, e)
 
-  find-refuses : good_key x ≡ false → (find n x s).answer ≡ answer 4 0 0 0
+  find_refuses : good_key x ≡ false → (find n x s).answer ≡ answer 4 0 0 0
   unfolding find
-  find-refuses g = simp g
+  find_refuses g = simp g
 
 -- the place that the code's search answered, as its match finds it
 pub located_as : {f : Functions} {c : Rooms} {x : ℕ} {m : Lent} {p p' : Place} → Located f c x m p → p ≡ p' → Located f c x m p'
@@ -124,7 +124,7 @@ located_as {f} {c} {x} {m} at is = subst (Located f c x m) is at
 -- what the code answers is what the rules do: k is the code's test of the key
 module _ (f : Functions) (c : Rooms) (x : ℕ) (m : Lent) {k : Bool} (test : k ≡ good_key x) where
   pub found_bad : not k ≡ true → answered c (answer 4 0 0 0) ≡ answered c (find (numbers_of f c) x (store_of f c m)).answer
-  found_bad bad = ap (answered c) (sym (find-refuses (numbers_of f c) x (store_of f c m) (sym test ∙ not-true k bad)))
+  found_bad bad = ap (answered c) (sym (find_refuses (numbers_of f c) x (store_of f c m) (sym test ∙ not-true k bad)))
 
 module _ {f : Functions} {c : Rooms} {x : ℕ} {m : Lent} {k : Bool} (test : k ≡ good_key x) (good : not k ≡ false) where
   pub held : {p : Place} → Located f c x m p → lookup (numbers_of f c) x (store_of f c m) ≡ value_in m p
@@ -133,4 +133,4 @@ module _ {f : Functions} {c : Rooms} {x : ℕ} {m : Lent} {k : Bool} (test : k �
 
   pub found_at : {s : Seen} → Sees f c x m s → answered c (answer s.number s.value 0 0) ≡ answered c (find (numbers_of f c) x (store_of f c m)).answer
   found_at {s} sees =
-      ap (answered c) (sees.says ∙ sym (find-answers (numbers_of f c) x (store_of f c m) (value_in m s.place) (sym test ∙ not-false k good) (held sees.at)))
+      ap (answered c) (sees.says ∙ sym (find_answers (numbers_of f c) x (store_of f c m) (value_in m s.place) (sym test ∙ not-false k good) (held sees.at)))

@@ -71,8 +71,8 @@ leaves c m o = cond (is_accepted o.answer) (outcome (words_of c o.store) (answer
 
 -- queue and detector of the record's rooms, and lengths within them
 pub record RoomsFit (c : Rooms) (nq nd : ℕ) : Type 0 where
-  pub queue-small : c.queue_room ≤ 64
-  pub detector-small : c.detector_room ≤ 128
+  pub queue_small : c.queue_room ≤ 64
+  pub detector_small : c.detector_room ≤ 128
   pub queue : nq ≡ 3 * c.queue_room
   pub detector : nd ≡ 2 * c.detector_room
   pub queue_in : c.queue_len ≤ c.queue_room

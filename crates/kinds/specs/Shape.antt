@@ -18,9 +18,9 @@ turn kind ql dl = record { kind = kind; queue_len = ql; detector_len = dl }
 -- queue and detector hold their entries and pairs, and zeros behind them
 pub record Ready (ql dl : ℕ) (q d : List ℕ) : Type 0 where
   pub queue_in : 3 * ql ≤ length q
-  pub queue-small : length q ≤ 192
+  pub queue_small : length q ≤ 192
   pub detector_in : 2 * dl ≤ length d
-  pub detector-small : length d ≤ 256
+  pub detector_small : length d ≤ 256
   pub queue : q ≡ packed entry_form (length q) (entries_in ql q)
   pub detector : d ≡ packed pair_form (length d) (pairs_in dl d)
 

@@ -24,8 +24,8 @@ sets-within xs ys k (v ∷ vs) h =
     ap (λ l. sets l (suc k) vs) (set-append_left xs ys k v (omega arith)) ∙ sets-within (set xs k v) ys (suc k) vs (omega (arith, length-set xs k v))
 
 pub record Lawful {A : Type 0} (f : Form A) : Type 0 where
-  pub length-write : (a : A) → length (f.write a) ≡ f.width
-  pub read-write : (a : A) (zs : List ℕ) → f.read (f.write a ++ zs) ≡ a
+  pub length_write : (a : A) → length (f.write a) ≡ f.width
+  pub read_write : (a : A) (zs : List ℕ) → f.read (f.write a ++ zs) ≡ a
   pub write_read : (ws : List ℕ) → f.width ≤ length ws → f.write (f.read ws) ≡ take f.width ws
 
 -- the first words of a list that is long enough
@@ -41,19 +41,19 @@ three (a ∷ b ∷ []) h = absurd (omega arith)
 three (a ∷ b ∷ c ∷ ws) h = refl
 
 pub cell_lawful : Lawful cell_form
-cell_lawful = record { length-write = λ a. refl; read-write = λ a zs. refl; write_read = two }
+cell_lawful = record { length_write = λ a. refl; read_write = λ a zs. refl; write_read = two }
 
 pub entry_lawful : Lawful entry_form
-entry_lawful = record { length-write = λ a. refl; read-write = λ a zs. refl; write_read = three }
+entry_lawful = record { length_write = λ a. refl; read_write = λ a zs. refl; write_read = three }
 
 pub pair_lawful : Lawful pair_form
-pair_lawful = record { length-write = λ a. refl; read-write = λ a zs. refl; write_read = two }
+pair_lawful = record { length_write = λ a. refl; read_write = λ a zs. refl; write_read = two }
 
 module _ {A : Type 0} (f : Form A) where
-  pub write-append : (l m : List A) → write_many f (l ++ m) ≡ write_many f l ++ write_many f m
+  pub write_append : (l m : List A) → write_many f (l ++ m) ≡ write_many f l ++ write_many f m
   unfolding write_many
-  write-append [] m = refl
-  write-append (a ∷ l) m = ap (λ ws. f.write a ++ ws) (write-append l m) ∙ sym (append_assoc (f.write a) (write_many f l) (write_many f m))
+  write_append [] m = refl
+  write_append (a ∷ l) m = ap (λ ws. f.write a ++ ws) (write_append l m) ∙ sym (append_assoc (f.write a) (write_many f l) (write_many f m))
 
   pub write_one : (a : A) → write_many f (a ∷ []) ≡ f.write a
   unfolding write_many
@@ -89,49 +89,49 @@ module _ {A : Type 0} (f : Form A) where
     pub length-write_many : (l : List A) → length (write_many f l) ≡ f.width * length l
     unfolding write_many
     length-write_many [] = sym (mul-zero f.width)
-    length-write_many (a ∷ l) = omega (arith, length-append (f.write a) (write_many f l), ok.length-write a, length-write_many l, mul-suc f.width (length l))
+    length-write_many (a ∷ l) = omega (arith, length-append (f.write a) (write_many f l), ok.length_write a, length-write_many l, mul-suc f.width (length l))
 
-    pub read-written : (l : List A) (zs : List ℕ) → read_many f (length l) (write_many f l ++ zs) ≡ l
+    pub read_written : (l : List A) (zs : List ℕ) → read_many f (length l) (write_many f l ++ zs) ≡ l
     unfolding read_many write_many
-    read-written [] zs = refl
-    read-written (a ∷ l) zs =
+    read_written [] zs = refl
+    read_written (a ∷ l) zs =
         let e : (f.write a ++ write_many f l) ++ zs ≡ f.write a ++ (write_many f l ++ zs) = append_assoc (f.write a) (write_many f l) zs in
         ap (λ ws. f.read ws ∷ read_many f (length l) (drop f.width ws)) e
-        ∙ ap (λ b. b ∷ read_many f (length l) (drop f.width (f.write a ++ (write_many f l ++ zs)))) (ok.read-write a (write_many f l ++ zs))
-        ∙ ap (λ ws. a ∷ read_many f (length l) ws) (drop_at (f.write a) (write_many f l ++ zs) f.width (ok.length-write a))
-        ∙ ap (λ m. a ∷ m) (read-written l zs)
+        ∙ ap (λ b. b ∷ read_many f (length l) (drop f.width (f.write a ++ (write_many f l ++ zs)))) (ok.read_write a (write_many f l ++ zs))
+        ∙ ap (λ ws. a ∷ read_many f (length l) ws) (drop_at (f.write a) (write_many f l ++ zs) f.width (ok.length_write a))
+        ∙ ap (λ m. a ∷ m) (read_written l zs)
 
-    pub write-read_many : (n : ℕ) (ws : List ℕ) → f.width * n ≤ length ws → write_many f (read_many f n ws) ≡ take (f.width * n) ws
+    pub write_read_many : (n : ℕ) (ws : List ℕ) → f.width * n ≤ length ws → write_many f (read_many f n ws) ≡ take (f.width * n) ws
     unfolding read_many write_many
-    write-read_many zero ws h = ap (λ k. take k ws) (sym (mul-zero f.width))
-    write-read_many (suc n) ws h =
+    write_read_many zero ws h = ap (λ k. take k ws) (sym (mul-zero f.width))
+    write_read_many (suc n) ws h =
         let m = mul-suc f.width n in
         let e : f.width + f.width * n ≡ f.width * suc n = omega arith in
         ap (λ us. us ++ write_many f (read_many f n (drop f.width ws))) (ok.write_read ws (omega arith))
-        ∙ ap (λ us. take f.width ws ++ us) (write-read_many n (drop f.width ws) (omega (arith, length-drop f.width ws)))
+        ∙ ap (λ us. take f.width ws ++ us) (write_read_many n (drop f.width ws) (omega (arith, length-drop f.width ws)))
         ∙ sym (take-add f.width (f.width * n) ws) ∙ ap (λ k. take k ws) e
 
     -- all the words of a table
-    pub write-all : (n : ℕ) (ws : List ℕ) → length ws ≡ f.width * n → write_many f (read_many f n ws) ≡ ws
-    write-all n ws e = write-read_many n ws (omega arith) ∙ take_all (f.width * n) ws (omega arith)
+    pub write_all : (n : ℕ) (ws : List ℕ) → length ws ≡ f.width * n → write_many f (read_many f n ws) ≡ ws
+    write_all n ws e = write_read_many n ws (omega arith) ∙ take_all (f.width * n) ws (omega arith)
 
     pub read_all : (l : List A) → read_many f (length l) (write_many f l) ≡ l
-    read_all l = ap (read_many f (length l)) (sym (append-nil (write_many f l))) ∙ read-written l []
+    read_all l = ap (read_many f (length l)) (sym (append-nil (write_many f l))) ∙ read_written l []
 
     -- one thing replaced
-    pub write-set : (l : List A) (i : ℕ) (a : A) → i < length l → write_many f (set l i a) ≡ sets (write_many f l) (f.width * i) (f.write a)
+    pub write_set : (l : List A) (i : ℕ) (a : A) → i < length l → write_many f (set l i a) ≡ sets (write_many f l) (f.width * i) (f.write a)
     unfolding write_many
-    write-set [] i a h = absurd (omega arith)
-    write-set (b ∷ l) zero a h =
-        let lb = ok.length-write b in
-        let la = ok.length-write a in
+    write_set [] i a h = absurd (omega arith)
+    write_set (b ∷ l) zero a h =
+        let lb = ok.length_write b in
+        let la = ok.length_write a in
         sym (ap (λ k. sets (f.write b ++ write_many f l) k (f.write a)) (mul-zero f.width)
         ∙ sets-eq (f.write a) (f.write b ++ write_many f l) 0 (omega (arith, length-append (f.write b) (write_many f l)))
         ∙ ap (λ ws. f.write a ++ ws) (drop_at (f.write b) (write_many f l) (0 + length (f.write a)) (omega arith)))
-    write-set (b ∷ l) (suc i) a h =
+    write_set (b ∷ l) (suc i) a h =
         let m = mul-suc f.width i in
-        let e : f.width * suc i ≡ length (f.write b) + f.width * i = omega (arith, ok.length-write b) in
-        ap (λ ws. f.write b ++ ws) (write-set l i a (omega arith))
+        let e : f.width * suc i ≡ length (f.write b) + f.width * i = omega (arith, ok.length_write b) in
+        ap (λ ws. f.write b ++ ws) (write_set l i a (omega arith))
         ∙ sym (ap (λ k. sets (f.write b ++ write_many f l) k (f.write a)) e ∙ sets_behind (f.write b) (write_many f l) (f.width * i) (f.write a))
 
     pub read_set : (n i : ℕ) (ws : List ℕ) (a : A) → i < n → f.width * n ≤ length ws → read_many f n (sets ws (f.width * i) (f.write a)) ≡ set (read_many f n ws) i a
@@ -140,10 +140,10 @@ module _ {A : Type 0} (f : Form A) where
         let rest : List ℕ = drop (f.width * n) ws in
         let ln : length many ≡ n = length-read_many n ws in
         let lw : length (write_many f many) ≡ f.width * n = length-write_many many ∙ ap (λ k. f.width * k) ln in
-        let all : ws ≡ write_many f many ++ rest = sym (take-append-drop (f.width * n) ws) ∙ ap (λ us. us ++ rest) (sym (write-read_many n ws l)) in
+        let all : ws ≡ write_many f many ++ rest = sym (take-append-drop (f.width * n) ws) ∙ ap (λ us. us ++ rest) (sym (write_read_many n ws l)) in
         let fits : f.width * i + length (f.write a) ≤ length (write_many f many) =
-        omega (arith, ok.length-write a, mul-suc f.width i, mul-le-mul_left f.width (add-one-le h), ap (λ k. f.width * k) (sym (add-one i))) in
+        omega (arith, ok.length_write a, mul-suc f.width i, mul-le-mul_left f.width (add-one-le h), ap (λ k. f.width * k) (sym (add-one i))) in
         ap (λ us. read_many f n (sets us (f.width * i) (f.write a))) all
-        ∙ ap (read_many f n) (sets-within (write_many f many) rest (f.width * i) (f.write a) fits ∙ ap (λ us. us ++ rest) (sym (write-set many i a (omega arith))))
+        ∙ ap (read_many f n) (sets-within (write_many f many) rest (f.width * i) (f.write a) fits ∙ ap (λ us. us ++ rest) (sym (write_set many i a (omega arith))))
         ∙ ap (λ k. read_many f k (write_many f (set many i a) ++ rest)) (sym (length-set many i a ∙ ln))
-        ∙ read-written (set many i a) rest
+        ∙ read_written (set many i a) rest

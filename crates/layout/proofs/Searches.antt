@@ -41,26 +41,26 @@ module _ (y b : ℕ) (ws : List ℕ) (n i : ℕ) where
   unfolding is_marked
   marked_step h = ap (is_marked y (meant b)) (read_from pair_form n i ws h) ∙ simp (get_or-drop, add-zero)
 
-  pub marked-here : i < n → pair_test y b ws i ≡ true → is_marked y (meant b) (pairs_from ws n i) ≡ true
-  marked-here h t = simp t at (marked_step h)
+  pub marked_here : i < n → pair_test y b ws i ≡ true → is_marked y (meant b) (pairs_from ws n i) ≡ true
+  marked_here h t = simp t at (marked_step h)
 
-  pub marked-past : i < n → pair_test y b ws i ≡ false → is_marked y (meant b) (pairs_from ws n i) ≡ is_marked y (meant b) (pairs_from ws n (i + 1))
-  marked-past h t = simp t at (marked_step h)
+  pub marked_past : i < n → pair_test y b ws i ≡ false → is_marked y (meant b) (pairs_from ws n i) ≡ is_marked y (meant b) (pairs_from ws n (i + 1))
+  marked_past h t = simp t at (marked_step h)
 
   pub marked_end : n ≤ i → is_marked y (meant b) (pairs_from ws n i) ≡ false
   unfolding is_marked
   marked_end h = ap (is_marked y (meant b)) (read_none pair_form n i (drop (2 * i) ws) h)
 
 module _ (x : ℕ) (ws : List ℕ) (n i : ℕ) where
-  place-step : i < n → search_queue i x (entries_from ws n i) ≡ cond (eqb (get_or ws (3 * i) 0) x) (waiting_at i) (search_queue (i + 1) x (entries_from ws n (i + 1)))
+  place_step : i < n → search_queue i x (entries_from ws n i) ≡ cond (eqb (get_or ws (3 * i) 0) x) (waiting_at i) (search_queue (i + 1) x (entries_from ws n (i + 1)))
   unfolding search_queue
-  place-step h = ap (search_queue i x) (read_from entry_form n i ws h) ∙ simp (get_or-drop, add-zero, add-one)
+  place_step h = ap (search_queue i x) (read_from entry_form n i ws h) ∙ simp (get_or-drop, add-zero, add-one)
 
   pub place_here : i < n → get_or ws (3 * i) 0 ≡ x → search_queue i x (entries_from ws n i) ≡ place_among n i
-  place_here h e = simp (lt-ltb i n h) (simp (eq-eqb _ _ e) at (place-step h))
+  place_here h e = simp (lt-ltb i n h) (simp (eq-eqb _ _ e) at (place_step h))
 
-  pub place-past : i < n → (get_or ws (3 * i) 0 ≡ x → ⊥) → search_queue i x (entries_from ws n i) ≡ search_queue (i + 1) x (entries_from ws n (i + 1))
-  place-past h e = simp (ne_eqb _ _ e) at (place-step h)
+  pub place_past : i < n → (get_or ws (3 * i) 0 ≡ x → ⊥) → search_queue i x (entries_from ws n i) ≡ search_queue (i + 1) x (entries_from ws n (i + 1))
+  place_past h e = simp (ne_eqb _ _ e) at (place_step h)
 
   pub place_end : n ≤ i → search_queue i x (entries_from ws n i) ≡ place_among n n
   unfolding search_queue

@@ -35,10 +35,10 @@ module _ {A : Type 0} (w : A → ℕ) where
   weigh_mem {x} (here {x = y} {xs = l} e) = let f : w x ≡ w y = ap w e in omega arith
   weigh_mem (there m) = omega (arith, weigh_mem m)
 
-  pub weigh-some : (l : List A) → 1 ≤ weigh l → (x : A) × (x ∈ l) × (1 ≤ w x)
+  pub weigh_some : (l : List A) → 1 ≤ weigh l → (x : A) × (x ∈ l) × (1 ≤ w x)
   unfolding weigh
-  weigh-some [] h = absurd (omega arith)
-  weigh-some (x ∷ l) h = go (dec_le 1 (w x)) (weigh-some l)
+  weigh_some [] h = absurd (omega arith)
+  weigh_some (x ∷ l) h = go (dec_le 1 (w x)) (weigh_some l)
     where
       go : Dec (1 ≤ w x) → (1 ≤ weigh l → (y : A) × (y ∈ l) × (1 ≤ w y)) → (y : A) × (y ∈ x ∷ l) × (1 ≤ w y)
       go (yes p) f = (x, here refl, p)
@@ -53,8 +53,8 @@ weigh-map f w (x ∷ l) = ap (λ m. w (f x) + m) (weigh-map f w l)
 abbrev pub is_one : ℕ → ℕ → ℕ
 is_one k x = cond (eqb x k) 1 0
 
-pub is_one-same : (k x : ℕ) → x ≡ k → is_one k x ≡ 1
-is_one-same k x e = simp (eq-eqb x k e)
+pub is_one_same : (k x : ℕ) → x ≡ k → is_one k x ≡ 1
+is_one_same k x e = simp (eq-eqb x k e)
 
 pub is_one-other : (k x : ℕ) → x ≢ k → is_one k x ≡ 0
 is_one-other k x e = simp (ne_eqb x k e)
@@ -66,8 +66,8 @@ of_is_one k x h = go (eqb x k) refl h
     go true e l = eqb-true x k e
     go false e l = absurd (omega arith)
 
-pub is_one-small : (k x : ℕ) → is_one k x ≤ 1
-is_one-small k x = go (eqb x k)
+pub is_one_small : (k x : ℕ) → is_one k x ≤ 1
+is_one_small k x = go (eqb x k)
   where
     go : (b : Bool) → cond b 1 0 ≤ 1
     go true = omega arith
@@ -78,10 +78,10 @@ abbrev pub times : ℕ → List ℕ → ℕ
 times k l = weigh (is_one k) l
 
 pub to_times : (k : ℕ) {l : List ℕ} → k ∈ l → 1 ≤ times k l
-to_times k m = omega (arith, weigh_mem (is_one k) m, is_one-same k k refl)
+to_times k m = omega (arith, weigh_mem (is_one k) m, is_one_same k k refl)
 
 pub of_times : (k : ℕ) (l : List ℕ) → 1 ≤ times k l → k ∈ l
-of_times k l h = let t = weigh-some (is_one k) l h in subst (λ x. x ∈ l) (of_is_one k t.0 t.2) t.1
+of_times k l h = let t = weigh_some (is_one k) l h in subst (λ x. x ∈ l) (of_is_one k t.0 t.2) t.1
 
 pub times_none : (k : ℕ) (l : List ℕ) → (k ∈ l → ⊥) → times k l ≡ 0
 times_none k l n = go (dec_le 1 (times k l))
@@ -97,10 +97,10 @@ nodup_times nil k = omega arith
 nodup_times (more {a = x} {l = l} n d) k = go (dec_le 1 (is_one k x)) (nodup_times d k)
   where
     go : Dec (1 ≤ is_one k x) → times k l ≤ 1 → is_one k x + times k l ≤ 1
-    go (yes h) r = let e = of_is_one k x h in omega (arith, times_none k l (λ m. n (subst (λ y. y ∈ l) (sym e) m)), is_one-small k x)
+    go (yes h) r = let e = of_is_one k x h in omega (arith, times_none k l (λ m. n (subst (λ y. y ∈ l) (sym e) m)), is_one_small k x)
     go (no h) r = omega arith
 
 pub times_nodup : (l : List ℕ) → ((k : ℕ) → times k l ≤ 1) → NoDup l
 unfolding weigh
 times_nodup [] f = nil
-times_nodup (x ∷ l) f = more {l = l} (λ m. omega (arith, f x, to_times x m, is_one-same x x refl)) (times_nodup l (λ k. omega (arith, f k)))
+times_nodup (x ∷ l) f = more {l = l} (λ m. omega (arith, f x, to_times x m, is_one_same x x refl)) (times_nodup l (λ k. omega (arith, f k)))

@@ -11,17 +11,17 @@ use Rattle.little_endian.specs.Word.{little_endian, word_at, bytes_of_word}
 use Rattle.little_endian.specs.Image.{words_of, words_put, Holds}
 use Rattle.little_endian.proofs.Laws.{word_of_bytes}
 
-pub length-words : (bs : List ℕ) → length (words_of bs) ≡ length bs / 4
+pub length_words : (bs : List ℕ) → length (words_of bs) ≡ length bs / 4
 unfolding words_of
-length-words [] = refl
-length-words (b0 ∷ []) = refl
-length-words (b0 ∷ (b1 ∷ [])) = refl
-length-words (b0 ∷ (b1 ∷ (b2 ∷ []))) = refl
-length-words (b0 ∷ (b1 ∷ (b2 ∷ (b3 ∷ bs)))) = omega (arith, length-words bs)
+length_words [] = refl
+length_words (b0 ∷ []) = refl
+length_words (b0 ∷ (b1 ∷ [])) = refl
+length_words (b0 ∷ (b1 ∷ (b2 ∷ []))) = refl
+length_words (b0 ∷ (b1 ∷ (b2 ∷ (b3 ∷ bs)))) = omega (arith, length_words bs)
 
 -- the four bytes of word i lie in the image
 pub room : (bs : List ℕ) (i : ℕ) → i < length (words_of bs) → 4 * i + 4 ≤ length bs
-room bs i h = omega (arith, length-words bs)
+room bs i h = omega (arith, length_words bs)
 
 -- word i stands in the four bytes from 4 i
 word_stands : (bs : List ℕ) (i : ℕ) → i < length (words_of bs) → word_at bs (4 * i) ≡ get_or (words_of bs) i 0
@@ -79,7 +79,7 @@ put_holds bs after i w h fits e = subst (λ l. Holds bs l (set (words_of bs) i w
 
 -- as many words as before
 pub same_count : {a b ws : List ℕ} → Holds a b ws → length (words_of b) ≡ length (words_of a)
-same_count {a} {b} p = omega (arith, length-words a, length-words b, p.size)
+same_count {a} {b} p = omega (arith, length_words a, length_words b, p.size)
 
 -- a run of no words changes nothing
 pub none_put : (a src : List ℕ) (from : ℕ) → Holds a a (paste (words_of a) from src 0)
@@ -100,8 +100,8 @@ one_more a b c src from j room below p q =
     }
 
 -- the whole slice put
-pub all-put : (a b src : List ℕ) (from j : ℕ) → j ≡ length src → Holds a b (paste (words_of a) from src j) → Holds a b (words_put (words_of a) from src)
-all-put a b src from j end p = subst (λ k. Holds a b (paste (words_of a) from src k)) end p
+pub all_put : (a b src : List ℕ) (from j : ℕ) → j ≡ length src → Holds a b (paste (words_of a) from src j) → Holds a b (words_put (words_of a) from src)
+all_put a b src from j end p = subst (λ k. Holds a b (paste (words_of a) from src k)) end p
 
 -- a run of words read into a slice, and one more
 pub read_more : (ws out now : List ℕ) (from j w : ℕ) → from + length out ≤ length ws → j < length out → now ≡ paste out 0 (drop from ws) j

@@ -6,6 +6,6 @@ use mathlib.Core.Bool.{true, false≢true}
 use Rattle.numbers.specs.Ranges.{good_key}
 
 -- 0 is no good key
-pub good-nonzero : (k : ℕ) → good_key k ≡ true → k ≢ 0
+pub good_nonzero : (k : ℕ) → good_key k ≡ true → k ≢ 0
 unfolding good_key
-good-nonzero k good zero = false≢true (sym (ap good_key zero) ∙ good)
+good_nonzero k good zero = false≢true (sym (ap good_key zero) ∙ good)

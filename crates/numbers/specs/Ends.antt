@@ -5,7 +5,7 @@ use Rattle.numbers.specs.Ranges.{cells_in_range, queue_room_in_range, detector_r
 -- a range with numbers that are in it, and numbers that are not
 pub record Range : Type 0 where
   pub test : ℕ → Bool
-  pub IsInside : List ℕ
+  pub inside : List ℕ
   pub outside : List ℕ
 
 abbrev pub all_pass : (ℕ → Bool) → List ℕ → Bool
@@ -13,7 +13,7 @@ all_pass test [] = true
 all_pass test (x ∷ l) = test x && all_pass test l
 
 abbrev pub ends : (ℕ → Bool) → List ℕ → List ℕ → Range
-ends test IsInside outside = record { test = test; IsInside = IsInside; outside = outside }
+ends test inside outside = record { test = test; inside = inside; outside = outside }
 
 unfoldable pub ranges : List Range
 ranges =
@@ -28,7 +28,7 @@ ranges =
 
 unfoldable pub all_hold : List Range → Bool
 all_hold [] = true
-all_hold (r ∷ l) = all_pass r.test r.IsInside && all_pass (λ x. not (r.test x)) r.outside && all_hold l
+all_hold (r ∷ l) = all_pass r.test r.inside && all_pass (λ x. not (r.test x)) r.outside && all_hold l
 
 abbrev pub RangeEnds : Type 0
 RangeEnds = all_hold ranges ≡ true

@@ -8,14 +8,14 @@ use borrow.Author.Tests.{eqb-true}
 use Rattle.records.specs.Record.{letter_c, letter_d, letter_f, letter_h, letter_m, letter_r, letter_s, letter_t, Fields, fields, is_mark, is_good, if_good}
 use Rattle.records.specs.Inner.{if_zero}
 
-pub same-fields : {a a' b b' k k' v v' : ℕ} → a ≡ a' → b ≡ b' → k ≡ k' → v ≡ v' → fields a b k v ≡ fields a' b' k' v'
-same-fields p q r s = rw (p, q, r, s)
+pub same_fields : {a a' b b' k k' v v' : ℕ} → a ≡ a' → b ≡ b' → k ≡ k' → v ≡ v' → fields a b k v ≡ fields a' b' k' v'
+same_fields p q r s = rw (p, q, r, s)
 
 -- a mark that passes the test has the letters
 pub mark_is : (a b first second key value : ℕ) → is_mark a b (fields first second key value) ≡ true → fields a b key value ≡ fields first second key value
 mark_is a b first second key value h =
     let both = (and-eq-true_iff (eqb first a) (eqb second b)).0 h in
-    same-fields (sym (eqb-true first a both.0)) (sym (eqb-true second b both.1)) refl refl
+    same_fields (sym (eqb-true first a both.0)) (sym (eqb-true second b both.1)) refl refl
 
 -- a record whose spare word passes the test has a 0 there
 pub spare_is : (a b key value : ℕ) → if_zero value (fields a b key 0) ≡ if_zero value (fields a b key value)

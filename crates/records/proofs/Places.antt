@@ -10,7 +10,7 @@ use Rattle.little_endian.specs.Word.{word_at}
 use Rattle.records.specs.Record.{fields, fields_at, if_good, or_refuse10, refused, ended, record_at, read_at}
 use Rattle.records.specs.Inner.{said}
 use Rattle.records.specs.declared.Meaning.{Meaning}
-use Rattle.records.proofs.Marks.{same-fields}
+use Rattle.records.proofs.Marks.{same_fields}
 
 -- the meaning that was found, of the fields that were read, is the record's
 pub record_is :
@@ -18,7 +18,7 @@ pub record_is :
     → said m ≡ if_good (fields (get_or bytes place 0) (get_or bytes (place + 1) 0) key value) → or_refuse10 (said m') place ≡ record_at bytes place
 unfolding record_at
 record_is bytes place key value {m} {m'} is k v says =
-    let found : said m' ≡ if_good (fields_at bytes place) = ap said (sym is) ∙ says ∙ ap if_good (same-fields refl refl k v) in
+    let found : said m' ≡ if_good (fields_at bytes place) = ap said (sym is) ∙ says ∙ ap if_good (same_fields refl refl k v) in
     ap (λ o. or_refuse10 o place) found
 
 module _ (bytes : List ℕ) (place : ℕ) where

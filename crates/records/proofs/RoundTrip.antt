@@ -13,7 +13,7 @@ use Rattle.records.specs.Told.{fields_of}
 use Rattle.records.specs.Bytes.{bytes_of, WordsFit, RoundTrip}
 use Rattle.records.specs.declared.Command.{Command}
 use Rattle.records.specs.declared.Command.TheVariants.{Define, Change, Find, Remove, Settle}
-use Rattle.records.proofs.Marks.{same-fields}
+use Rattle.records.proofs.Marks.{same_fields}
 use Rattle.records.proofs.Places.{has_ten}
 
 -- the fields that were written
@@ -31,7 +31,7 @@ fields_back f fits before after =
     word_back (before ++ (mark ++ key)) after f.value (length before + 6) fits.value (sym (length-append before (mark ++ key))) in
     let k' : word_at (before ++ rest) (length before + 2) ≡ f.key = rw append_assoc at k in
     let v' : word_at (before ++ rest) (length before + 6) ≡ f.value = rw append_assoc at v in
-    same-fields first second k' v'
+    same_fields first second k' v'
 
 -- every command's fields are good
 means : (command : Command) → if_good (fields_of command) ≡ some (fields_of command)

@@ -13,9 +13,9 @@ use Rattle.rules.specs.Store.{table_0, table_1, Cell, free_cell, Entry, Store, N
 use Rattle.rules.specs.Search.{Place as RulesPlace, in_table, waiting_at, nowhere, search, no_entry, entry_at, value_at, lookup}
 use Rattle.rules.specs.Calls.{answer, refused, accepted, refuse_if, or_refuse7, drop_at, without, remove}
 use Rattle.layout.specs.Forms.{cell_form, entry_form, pair_form, write_many, packed}
-use Rattle.layout.proofs.Forms.{cell_lawful, entry_lawful, length-read_many, read_at, write-all, write-set}
-use Rattle.layout.proofs.Packed.{packed-close}
-use Rattle.steps.proofs.InTable.{cell-read}
+use Rattle.layout.proofs.Forms.{cell_lawful, entry_lawful, length-read_many, read_at, write_all, write_set}
+use Rattle.layout.proofs.Packed.{packed_close}
+use Rattle.steps.proofs.InTable.{cell_read}
 use Rattle.numbers.specs.declared.Functions.{Functions}
 use Rattle.layout.specs.Memory.{Lent, lent, words_in, Tidied, cells_in, entries_in, pairs_in}
 use Rattle.numbers.specs.declared.Rooms.{Rooms}
@@ -29,10 +29,10 @@ dropped [] j h = absurd (omega arith)
 dropped (e ∷ es) zero h = refl
 dropped (e ∷ es) (suc j) h = ap (λ l. e ∷ l) (dropped es j (omega arith))
 
-dropped-length : (es : List Entry) (j : ℕ) → j < length es → length (drop_at es j) + 1 ≡ length es
-dropped-length [] j h = absurd (omega arith)
-dropped-length (e ∷ es) zero h = omega arith
-dropped-length (e ∷ es) (suc j) h = omega (arith, dropped-length es j (omega arith))
+dropped_length : (es : List Entry) (j : ℕ) → j < length es → length (drop_at es j) + 1 ≡ length es
+dropped_length [] j h = absurd (omega arith)
+dropped_length (e ∷ es) zero h = omega arith
+dropped_length (e ∷ es) (suc j) h = omega (arith, dropped_length es j (omega arith))
 
 entry_closed : (room n j : ℕ) (es : List Entry) → length es ≡ n → j < n → 3 * n ≤ room
     → closed (3 * j) 3 (3 * n) (packed entry_form room es) ≡ packed entry_form room (drop_at es j)
@@ -45,7 +45,7 @@ entry_closed room n j es e h fits =
     let first : length l ≡ j = length-take-le j es (omega arith) in
     let all : length (l ++ a ∷ m) ≡ n = ap length (sym whole) ∙ e in
     (λ i. closed (3 * sym first i) 3 (3 * sym all i) (packed entry_form room (whole i)))
-    ∙ packed-close entry_form entry_lawful room l m a (omega arith)
+    ∙ packed_close entry_form entry_lawful room l m a (omega arith)
     ∙ ap (packed entry_form room) (sym (dropped es j k))
 
 -- the words tidied, then the entry's gap closed
@@ -72,23 +72,23 @@ module _ (n : Numbers) (x : ℕ) (s : Store) where
         ap (λ b. refuse_if (not b) 4 s (or_refuse7 (lookup n x s) s (without (search n x s) s))) good
         ∙ ap (λ k. or_refuse7 (value_at k s) s (without k s)) e
 
-    remove-at : (p : RulesPlace) (u : ℕ) → search n x s ≡ p → value_at p s ≡ some u → remove n x s ≡ accepted u (without p s)
-    remove-at p u e is = remove_by p e ∙ ap (λ o. or_refuse7 o s (without p s)) is
+    remove_at : (p : RulesPlace) (u : ℕ) → search n x s ≡ p → value_at p s ≡ some u → remove n x s ≡ accepted u (without p s)
+    remove_at p u e is = remove_by p e ∙ ap (λ o. or_refuse7 o s (without p s)) is
 
 -- what the code's test of the key says
 pub bad_key : (k : Bool) {b : Bool} → k ≡ b → not k ≡ true → b ≡ false
 bad_key false e h = sym e
 bad_key true e h = absurd (true≢false (sym h))
 
-pub good-key : (k : Bool) {b : Bool} → k ≡ b → not k ≡ false → b ≡ true
-good-key true e h = sym e
-good-key false e h = absurd (true≢false h)
+pub good_key_lem : (k : Bool) {b : Bool} → k ≡ b → not k ≡ false → b ≡ true
+good_key_lem true e h = sym e
+good_key_lem false e h = absurd (true≢false h)
 
 -- the same of words
-cell-written : (r i : ℕ) (t : List ℕ) → length t ≡ 2 * r → i < r → sets t (2 * i) (0 ∷ 0 ∷ []) ≡ write_many cell_form (set (cells_in r t) i free_cell)
-cell-written r i t size h =
-    ap (λ ws. sets ws (2 * i) (0 ∷ 0 ∷ [])) (sym (write-all cell_form cell_lawful r t size))
-    ∙ sym (write-set cell_form cell_lawful (cells_in r t) i free_cell (omega (arith, length-read_many cell_form r t)))
+cell_written : (r i : ℕ) (t : List ℕ) → length t ≡ 2 * r → i < r → sets t (2 * i) (0 ∷ 0 ∷ []) ≡ write_many cell_form (set (cells_in r t) i free_cell)
+cell_written r i t size h =
+    ap (λ ws. sets ws (2 * i) (0 ∷ 0 ∷ [])) (sym (write_all cell_form cell_lawful r t size))
+    ∙ sym (write_set cell_form cell_lawful (cells_in r t) i free_cell (omega (arith, length-read_many cell_form r t)))
 
 entry_value : (ql j : ℕ) (q : List ℕ) → j < ql → (entry_at (entries_in ql q) j).value ≡ get_or q (3 * j + 1) 0
 entry_value ql j q h = ap (λ (e : Entry). e.value) (read_at entry_form ql j q no_entry h) ∙ simp get_or-drop
@@ -108,9 +108,9 @@ module _ (f : Functions) (c : Rooms) (x : ℕ) (t0 t1 q d : List ℕ) where
   refuses_bad bad e = ap (outcome m) e ∙ sym (ap (leaves c m) (remove_bad (numbers_of f c) x s bad))
 
   module _ (good : good_key x ≡ true) where
-    pub refuses-absent : {a : Told} → Located f c x m Nowhere → a ≡ answered c (answer 7 0 0 0) → Removes (outcome m a)
+    pub refuses_absent : {a : Told} → Located f c x m Nowhere → a ≡ answered c (answer 7 0 0 0) → Removes (outcome m a)
     unfolding leaves
-    refuses-absent l e = ap (outcome m) e ∙ sym (ap (leaves c m) (remove_by (numbers_of f c) x s good nowhere (sym l.is)))
+    refuses_absent l e = ap (outcome m) e ∙ sym (ap (leaves c m) (remove_by (numbers_of f c) x s good nowhere (sym l.is)))
 
     module _ (fit : FitIn f c m) where
       waits : c.queue_len ≡ length (entries_in c.queue_len q)
@@ -128,30 +128,30 @@ module _ (f : Functions) (c : Rooms) (x : ℕ) (t0 t1 q d : List ℕ) where
           let fd = ed ∙ ap (λ k. packed pair_form k (without p s).marked) fit.rooms.detector in
           let fa = ea ∙ (λ i. answered (with_lens c (lq i) (ld i)) (answer 0 u 0 0)) in
           (λ i. outcome (lent (e0 i) (e1 i) (fq i) (fd i)) (fa i))
-          ∙ sym (ap (leaves c m) (remove-at (numbers_of f c) x s good p u (sym is) value))
+          ∙ sym (ap (leaves c m) (remove_at (numbers_of f c) x s good p u (sym is) value))
 
       marks : c.detector_len ≡ length (pairs_in c.detector_len d)
       marks = sym (length-read_many pair_form c.detector_len d)
 
       module _ {i : ℕ} {t' q' d' : List ℕ} {a : Told} where
-        pub removes-first : Located f c x m (Table0 i) → CellGone c i t0 q d t' q' d' a → Removes (outcome (lent t' t1 q' d') a)
-        removes-first l g =
+        pub removes_first : Located f c x m (Table0 i) → CellGone c i t0 q d t' q' d' a → Removes (outcome (lent t' t1 q' d') a)
+        removes_first l g =
             removes (in_table table_0 i) (get_or t0 (2 * i + 1) 0) c.queue_len l.is
-            (ap (λ (k : Cell). some k.value) (cell-read f.r i t0 l.within))
-            (g.table ∙ cell-written f.r i t0 fit.first l.within) (sym (write-all cell_form cell_lawful f.r t1 fit.second))
+            (ap (λ (k : Cell). some k.value) (cell_read f.r i t0 l.within))
+            (g.table ∙ cell_written f.r i t0 fit.first l.within) (sym (write_all cell_form cell_lawful f.r t1 fit.second))
             g.tidied.queue g.tidied.detector waits marks g.answer
 
-        pub removes-second : Located f c x m (Table1 i) → CellGone c i t1 q d t' q' d' a → Removes (outcome (lent t0 t' q' d') a)
-        removes-second l g =
+        pub removes_second : Located f c x m (Table1 i) → CellGone c i t1 q d t' q' d' a → Removes (outcome (lent t0 t' q' d') a)
+        removes_second l g =
             removes (in_table table_1 i) (get_or t1 (2 * i + 1) 0) c.queue_len l.is
-            (ap (λ (k : Cell). some k.value) (cell-read f.r i t1 l.within))
-            (sym (write-all cell_form cell_lawful f.r t0 fit.first)) (g.table ∙ cell-written f.r i t1 fit.second l.within)
+            (ap (λ (k : Cell). some k.value) (cell_read f.r i t1 l.within))
+            (sym (write_all cell_form cell_lawful f.r t0 fit.first)) (g.table ∙ cell_written f.r i t1 fit.second l.within)
             g.tidied.queue g.tidied.detector waits marks g.answer
 
-      pub removes-waiting : {j : ℕ} {q' d' : List ℕ} {a : Told} → Located f c x m (Waiting j) → EntryGone c j q d q' d' a → Removes (outcome (lent t0 t1 q' d') a)
-      removes-waiting {j} l g =
+      pub removes_waiting : {j : ℕ} {q' d' : List ℕ} {a : Told} → Located f c x m (Waiting j) → EntryGone c j q d q' d' a → Removes (outcome (lent t0 t1 q' d') a)
+      removes_waiting {j} l g =
           removes (waiting_at j) (get_or q (3 * j + 1) 0) (c.queue_len - 1) l.is (ap some (entry_value c.queue_len j q l.within))
-          (sym (write-all cell_form cell_lawful f.r t0 fit.first)) (sym (write-all cell_form cell_lawful f.r t1 fit.second))
+          (sym (write_all cell_form cell_lawful f.r t0 fit.first)) (sym (write_all cell_form cell_lawful f.r t1 fit.second))
           g.queue g.detector
-          (let h : j < c.queue_len = l.within in omega (arith, waits, dropped-length (entries_in c.queue_len q) j (omega (arith, waits))))
+          (let h : j < c.queue_len = l.within in omega (arith, waits, dropped_length (entries_in c.queue_len q) j (omega (arith, waits))))
           marks g.answer

@@ -14,9 +14,9 @@ use borrow.Author.Tests.{eqb-true, eqb-false, leb-false}
 use lib.Dec.{eqb, leb, ltb}
 use lib.ListN.{length, length-set, set}
 use Rattle.lists.specs.Lists.{◌∈◌, NoDup}
-use Rattle.lists.proofs.Weigh.{weigh, weigh-set, is_one, is_one-same, is_one-other, is_one-small, times_none}
+use Rattle.lists.proofs.Weigh.{weigh, weigh-set, is_one, is_one_same, is_one-other, is_one_small, times_none}
 use Rattle.numbers.specs.Ranges.{good_key}
-use Rattle.numbers.proofs.Ranges.{good-nonzero}
+use Rattle.numbers.proofs.Ranges.{good_nonzero}
 use Rattle.rules.specs.Store.{Table, Cell, free_cell, Entry, cell_at, Store, Numbers, IntoCells}
 use Rattle.rules.specs.Step.{taken}
 use Rattle.rules.specs.Run.{run}
@@ -25,9 +25,9 @@ use Rattle.rules.specs.Calls.{joined, with_entry_value, with_value, drop_at, wit
 use Rattle.rules.specs.Sound.{present, IsGood, SoundContents}
 use Rattle.rules.specs.Keeps.{after_call, CallKeepsSound, CallChangesLookup}
 use Rattle.rules.specs.Contents.{contents}
-use Rattle.rules.proofs.Weights.{only-free, only-held, waiting_weight, weight, weight-put, times-present, to_present, of_present_weight, once-weight, weight-once, to_contents, of_contents_weight, is_cell, is_cell-same, is_cell-other, held-weight}
+use Rattle.rules.proofs.Weights.{only_free, only-held, waiting_weight, weight, weight_put, times-present, to_present, of_present_weight, once_weight, weight_once, to_contents, of_contents_weight, is_cell, is_cell_same, is_cell-other, held-weight}
 use Rattle.rules.proofs.Lookup.{Looked, looked, lookup-held, lookup_absent}
-use Rattle.rules.proofs.Parts.{EntrySound, parts, tables_of, queue_of, marks_of, put-sound, queue_behind}
+use Rattle.rules.proofs.Parts.{EntrySound, parts, tables_of, queue_of, marks_of, put_sound, queue_behind}
 use Rattle.rules.proofs.Places.{entry-within, entry_in}
 use Rattle.rules.proofs.Kept.{lookup_as, waiting_behind, run_sound_same, run-lookup}
 
@@ -45,18 +45,18 @@ waiting-drop w [] j l = absurd (omega arith)
 waiting-drop w (e ∷ q) zero l = omega arith
 waiting-drop w (e ∷ q) (suc j) l = omega (arith, waiting-drop w q j (omega arith))
 
-waiting-value : (w : Cell → ℕ) (q : List Entry) (j v : ℕ) → j < length q → waiting_weight w (with_entry_value q j v) + w (taken (entry_at q j)) ≡ waiting_weight w q + w (cell (entry_at q j).key v)
-waiting-value w q j v l = weigh-set (λ e. w (taken e)) q j (record { key = (entry_at q j).key; value = v; side = (entry_at q j).side }) no_entry l
+waiting_value : (w : Cell → ℕ) (q : List Entry) (j v : ℕ) → j < length q → waiting_weight w (with_entry_value q j v) + w (taken (entry_at q j)) ≡ waiting_weight w q + w (cell (entry_at q j).key v)
+waiting_value w q j v l = weigh-set (λ e. w (taken e)) q j (record { key = (entry_at q j).key; value = v; side = (entry_at q j).side }) no_entry l
 
 dropped_in : (q : List Entry) (j : ℕ) (e : Entry) → e ∈ drop_at q j → e ∈ q
 dropped_in [] j e m = m
 dropped_in (x ∷ q) zero e m = there m
 dropped_in (x ∷ q) (suc j) e m = ⊎_elim here (λ i. there (dropped_in q j e i)) (split m)
 
-dropped-length : (q : List Entry) (j : ℕ) → length (drop_at q j) ≤ length q
-dropped-length [] j = omega arith
-dropped-length (x ∷ q) zero = omega arith
-dropped-length (x ∷ q) (suc j) = omega (arith, dropped-length q j)
+dropped_length : (q : List Entry) (j : ℕ) → length (drop_at q j) ≤ length q
+dropped_length [] j = omega arith
+dropped_length (x ∷ q) zero = omega arith
+dropped_length (x ∷ q) (suc j) = omega (arith, dropped_length q j)
 
 -- what a set list holds: the new one, or one that was there
 set_in : (q : List Entry) (j : ℕ) (a e : Entry) → e ∈ set q j a → (e ≡ a) ⊎ (e ∈ q)
@@ -77,13 +77,13 @@ module _ (n : Numbers) (s : Store) (sound : SoundContents n s) where
         let f : w (cell (cell_at s.tables t i).key u) ≡ w (cell_at s.tables t i) = let g : (cell_at s.tables t i).value ≡ u = cc in ap (λ x. w (cell (cell_at s.tables t i).key x)) (sym g) in
         omega (
           arith,
-          weight-put w s.tables t i (cell (cell_at s.tables t i).key v) (omega (arith, sound.table-size t, cell-within t i nz into)),
+          weight_put w s.tables t i (cell (cell_at s.tables t i).key v) (omega (arith, sound.table_size t, cell-within t i nz into)),
           only-held w (cell_at s.tables t i) nz,
           only-held w (cell (cell_at s.tables t i).key v) nz,
         )
     change-weight w (waiting_at j) u nz e =
         let f : w (cell (entry_at s.waiting j).key u) ≡ w (taken (entry_at s.waiting j)) = let g : (entry_at s.waiting j).value ≡ u = cc in ap (λ x. w (cell (entry_at s.waiting j).key x)) (sym g) in
-        omega (arith, waiting-value w s.waiting j v (entry-within s.waiting j nz))
+        omega (arith, waiting_value w s.waiting j v (entry-within s.waiting j nz))
     change-weight w nowhere u nz e = absurd (nz refl)
 
   -- the entry at a place gone
@@ -92,7 +92,7 @@ module _ (n : Numbers) (s : Store) (sound : SoundContents n s) where
     unfolding weight
     remove-weight w (in_table t i) u nz e =
         let f : w (cell (cell_at s.tables t i).key u) ≡ w (cell_at s.tables t i) = let g : (cell_at s.tables t i).value ≡ u = cc in ap (λ x. w (cell (cell_at s.tables t i).key x)) (sym g) in
-        omega (arith, weight-put w s.tables t i free_cell (omega (arith, sound.table-size t, cell-within t i nz into)), only-held w (cell_at s.tables t i) nz, only-free w free_cell refl)
+        omega (arith, weight_put w s.tables t i free_cell (omega (arith, sound.table_size t, cell-within t i nz into)), only-held w (cell_at s.tables t i) nz, only_free w free_cell refl)
     remove-weight w (waiting_at j) u nz e =
         let f : w (cell (entry_at s.waiting j).key u) ≡ w (taken (entry_at s.waiting j)) = let g : (entry_at s.waiting j).value ≡ u = cc in ap (λ x. w (cell (entry_at s.waiting j).key x)) (sym g) in
         omega (arith, waiting-drop w s.waiting j (entry-within s.waiting j nz))
@@ -115,42 +115,42 @@ module _ (n : Numbers) (into : IntoCells n) (s : Store) (sound : SoundContents n
 
   joined-sound : (v : ℕ) → (x ∈ present s → ⊥) → length s.waiting < n.Q → SoundContents n (joined x v s)
   joined-sound v absent room = parts n (joined x v s) (tables_of n s sound)
-      (queue_behind n s.waiting (record { key = x; value = v; side = 0 }) room (queue_of n s sound).entries (good, inl refl)) (marks_of n s sound) (once-weight (joined x v s) once)
+      (queue_behind n s.waiting (record { key = x; value = v; side = 0 }) room (queue_of n s sound).entries (good, inl refl)) (marks_of n s sound) (once_weight (joined x v s) once)
     where
       once : (k : ℕ) → weight (key_weight k) (joined x v s) ≤ 1
       once k = go (ℕ_discrete x k)
         where
           go : Dec (x ≡ k) → weight (key_weight k) (joined x v s) ≤ 1
-          go (yes e) = let z = times_none k (present s) (λ m. absent (subst (λ y. y ∈ present s) (sym e) m)) in omega (arith, joined-weight v (key_weight k), is_one-small k x, times-present k s)
-          go (no d) = omega (arith, joined-weight v (key_weight k), is_one-other k x d, weight-once s sound.no_key_twice k)
+          go (yes e) = let z = times_none k (present s) (λ m. absent (subst (λ y. y ∈ present s) (sym e) m)) in omega (arith, joined-weight v (key_weight k), is_one_small k x, times-present k s)
+          go (no d) = omega (arith, joined-weight v (key_weight k), is_one-other k x d, weight_once s sound.no_key_twice k)
 
   joined-lookup : (v : ℕ) → SoundContents n (joined x v s) → (k : ℕ) → IsGood k → lookup n k (joined x v s) ≡ cond (eqb x k) (some v) (lookup n k s)
   joined-lookup v sound' k good' = go (eqb x k) refl
     where
       go : (b : Bool) → eqb x k ≡ b → lookup n k (joined x v s) ≡ cond b (some v) (lookup n k s)
       go true e = lookup-held n (joined x v s) sound' k good' v
-          (subst (λ y. cell y v ∈ contents (joined x v s)) (eqb-true x k e) (to_contents (cell x v) (joined x v s) (omega (arith, joined-weight v (is_cell (cell x v)), is_cell-same (cell x v)))))
+          (subst (λ y. cell y v ∈ contents (joined x v s)) (eqb-true x k e) (to_contents (cell x v) (joined x v s) (omega (arith, joined-weight v (is_cell (cell x v)), is_cell_same (cell x v)))))
       go false e = elsewhere n x s (joined x v s) sound sound' (λ w none. omega (arith, joined-weight v w, none v)) k good' (eqb-false x k e)
 
   module _ (p : Place) (at : key_at p s ≡ x) (old : ℕ) (value : value_at p s ≡ some old) (member : cell x old ∈ contents s) where
     held : key_at p s ≢ 0
-    held z = good-nonzero x good (sym at ∙ z)
+    held z = good_nonzero x good (sym at ∙ z)
 
     module _ (v : ℕ) where
       changed-weight : (w : Cell → ℕ) → weight w (with_value p v s) + w (cell x old) ≡ weight w s + w (cell x v)
       changed-weight w = subst (λ y. weight w (with_value p v s) + w (cell y old) ≡ weight w s + w (cell y v)) at (change-weight n s sound into v w p old held value)
 
-      changed-once : NoDup (present (with_value p v s))
-      changed-once = once-weight (with_value p v s) (λ k. omega (arith, changed-weight (key_weight k), weight-once s sound.no_key_twice k))
+      changed_once : NoDup (present (with_value p v s))
+      changed_once = once_weight (with_value p v s) (λ k. omega (arith, changed-weight (key_weight k), weight_once s sound.no_key_twice k))
 
       changed-sound : SoundContents n (with_value p v s)
-      changed-sound = go p held changed-once
+      changed-sound = go p held changed_once
         where
           go : (p : Place) → key_at p s ≢ 0 → NoDup (present (with_value p v s)) → SoundContents n (with_value p v s)
-          go (in_table t i) nz once = parts n _ (put-sound n s.tables (tables_of n s sound) t i (cell (cell_at s.tables t i).key v) (cell-within n s sound t i nz into)
-              (record { good = sound.good-cell t i; at_home = sound.at_home t i; free = λ z. absurd (nz z) })) (queue_of n s sound) (marks_of n s sound) once
+          go (in_table t i) nz once = parts n _ (put_sound n s.tables (tables_of n s sound) t i (cell (cell_at s.tables t i).key v) (cell-within n s sound t i nz into)
+              (record { good = sound.good_cell t i; at_home = sound.at_home t i; free = λ z. absurd (nz z) })) (queue_of n s sound) (marks_of n s sound) once
           go (waiting_at j) nz once = parts n _ (tables_of n s sound) (record {
-            fits = simp length-set sound.queue-fits;
+            fits = simp length-set sound.queue_fits;
             entries = λ e m. ⊎_elim (λ i. subst EntrySound (sym i) ((queue_of n s sound).entries (entry_at s.waiting j) (entry_in s.waiting j (entry-within s.waiting j nz)))) ((queue_of n s sound).entries e) (set_in s.waiting j _ e m);
           }) (marks_of n s sound) once
           go nowhere nz once = absurd (nz refl)
@@ -161,23 +161,23 @@ module _ (n : Numbers) (into : IntoCells n) (s : Store) (sound : SoundContents n
           go : (b : Bool) → eqb x k ≡ b → lookup n k (with_value p v s) ≡ cond b (some v) (lookup n k s)
           go true e = lookup-held n (with_value p v s) changed-sound k good' v
               (subst (λ y. cell y v ∈ contents (with_value p v s)) (eqb-true x k e) (to_contents (cell x v) (with_value p v s)
-              (omega (arith, changed-weight (is_cell (cell x v)), is_cell-same (cell x v), held-weight (is_cell (cell x v)) (cell x old) s member))))
+              (omega (arith, changed-weight (is_cell (cell x v)), is_cell_same (cell x v), held-weight (is_cell (cell x v)) (cell x old) s member))))
           go false e = elsewhere n x s (with_value p v s) sound changed-sound (λ w none. omega (arith, changed-weight w, none v, none old)) k good' (eqb-false x k e)
 
     removed-weight : (w : Cell → ℕ) → weight w (without p s) + w (cell x old) ≡ weight w s
     removed-weight w = subst (λ y. weight w (without p s) + w (cell y old) ≡ weight w s) at (remove-weight n s sound into w p old held value)
 
-    removed-once : NoDup (present (without p s))
-    removed-once = once-weight (without p s) (λ k. omega (arith, removed-weight (key_weight k), weight-once s sound.no_key_twice k))
+    removed_once : NoDup (present (without p s))
+    removed_once = once_weight (without p s) (λ k. omega (arith, removed-weight (key_weight k), weight_once s sound.no_key_twice k))
 
     removed-sound : SoundContents n (without p s)
-    removed-sound = go p held removed-once
+    removed-sound = go p held removed_once
       where
         go : (p : Place) → key_at p s ≢ 0 → NoDup (present (without p s)) → SoundContents n (without p s)
-        go (in_table t i) nz once = parts n _ (put-sound n s.tables (tables_of n s sound) t i free_cell (cell-within n s sound t i nz into)
+        go (in_table t i) nz once = parts n _ (put_sound n s.tables (tables_of n s sound) t i free_cell (cell-within n s sound t i nz into)
             (record { good = λ z. absurd (z refl); at_home = λ z. absurd (z refl); free = λ z. refl })) (queue_of n s sound) (marks_of n s sound) once
         go (waiting_at j) nz once = parts n _ (tables_of n s sound) (record {
-          fits = omega (arith, dropped-length s.waiting j, sound.queue-fits);
+          fits = omega (arith, dropped_length s.waiting j, sound.queue_fits);
           entries = λ e m. (queue_of n s sound).entries e (dropped_in s.waiting j e m);
         }) (marks_of n s sound) once
         go nowhere nz once = absurd (nz refl)
@@ -187,7 +187,7 @@ module _ (n : Numbers) (into : IntoCells n) (s : Store) (sound : SoundContents n
       where
         go : (b : Bool) → eqb x k ≡ b → lookup n k (without p s) ≡ cond b none (lookup n k s)
         go true e = lookup_absent n (without p s) removed-sound k good' (λ m.
-            omega (arith, of_present_weight k (without p s) m, removed-weight (key_weight k), weight-once s sound.no_key_twice k, is_one-same k x (eqb-true x k e)))
+            omega (arith, of_present_weight k (without p s) m, removed-weight (key_weight k), weight_once s sound.no_key_twice k, is_one_same k x (eqb-true x k e)))
         go false e = elsewhere n x s (without p s) sound removed-sound (λ w none. omega (arith, removed-weight w, none old)) k good' (eqb-false x k e)
 
 -- what holds of refusals 4 and 7 and of the accepted call holds of find, change and remove

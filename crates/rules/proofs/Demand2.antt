@@ -5,7 +5,7 @@ use mathlib.Core.Logic.{⊎_elim}
 use mathlib.Core.Bool.{not}
 use mathlib.Core.Option.{Option, none, some, none-ne-some}
 use Rattle.lists.specs.Lists.{◌∈◌}
-use Rattle.numbers.proofs.Ranges.{good-nonzero}
+use Rattle.numbers.proofs.Ranges.{good_nonzero}
 use Rattle.rules.specs.Store.{Store, Numbers, IntoCells}
 use Rattle.rules.specs.Search.{search, lookup}
 use Rattle.rules.specs.Calls.{refuse_if, or_refuse7, find, does}
@@ -13,7 +13,7 @@ use Rattle.rules.specs.Sound.{present, IsGood, SoundContents}
 use Rattle.rules.specs.Keeps.{after_call}
 use Rattle.rules.specs.Demand2.{opened, open_refused, called, History, opens, next, held, recalled, told, Lies, Demand2}
 use Rattle.rules.proofs.Places.{in_present}
-use Rattle.rules.proofs.Lookup.{Looked, looked, search-finds}
+use Rattle.rules.proofs.Lookup.{Looked, looked, search_finds}
 use Rattle.rules.proofs.CallsKept.{call_keeps_sound, call_changes_lookup}
 use Rattle.rules.proofs.Open.{fresh-sound, fresh-lookup}
 
@@ -55,9 +55,9 @@ module _ (n : Numbers) (s : Store) (sound : SoundContents n s) (k : ℕ) (good :
     where
       go : (o : Option ℕ) → Looked n s sound k good o → Lies o k s
       go (some v) t = unfold Looked in ⊎_elim
-          (λ t. (search n k s, t.2, λ p at. sym (search-finds n s sound k good p at)))
+          (λ t. (search n k s, t.2, λ p at. sym (search_finds n s sound k good p at)))
           (λ t. absurd (none-ne-some v (sym t.0))) t
-      go none t = unfold Looked in ⊎_elim (λ t. absurd (none-ne-some t.0 t.1)) (λ t p at. t.1 (subst (λ x. x ∈ present s) at (in_present s p (λ z. good-nonzero k good (sym at ∙ z))))) t
+      go none t = unfold Looked in ⊎_elim (λ t. absurd (none-ne-some t.0 t.1)) (λ t p at. t.1 (subst (λ x. x ∈ present s) at (in_present s p (λ z. good_nonzero k good (sym at ∙ z))))) t
 
 pub demand_2 : Demand2
 demand_2 past k good = let g = going past in record {

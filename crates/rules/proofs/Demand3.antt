@@ -12,8 +12,8 @@ use Rattle.rules.specs.Store.{Store, Numbers}
 use Rattle.rules.specs.Run.{run}
 use Rattle.rules.specs.Calls.{settle}
 use Rattle.rules.specs.Demand3.{settle_all, steps_in_all, granted, bound, Demand3, Demand3Converse}
-use Rattle.rules.proofs.Runs.{run-steps, run-idle, run-add}
-use Rattle.rules.proofs.Settling.{after, after-add, later, empties_in_time, never-empty}
+use Rattle.rules.proofs.Runs.{run_steps, run_idle, run_add}
+use Rattle.rules.proofs.Settling.{after, after_add, later, empties_in_time, never_empty}
 
 module _ (n : Numbers) where
   -- the steps that a settle call with budget b may do: none if it is refused
@@ -23,37 +23,37 @@ module _ (n : Numbers) where
   abbrev Runs : ℕ → Store → Type 0
   Runs b s = ((settle n b s).store ≡ after n (allowed b) s) × ((settle n b s).answer.steps ≡ (run n (allowed b) s).steps)
 
-  settle-runs : (b : ℕ) (s : Store) → Runs b s
+  settle_runs : (b : ℕ) (s : Store) → Runs b s
   unfolding settle run
-  settle-runs b s = go (dec_le b n.L)
+  settle_runs b s = go (dec_le b n.L)
     where
       go : Dec (b ≤ n.L) → Runs b s
       go (yes l) = rw (le-leb b n.L l, le-ltb n.L b l) (refl, refl)
       go (no l) = rw (lt-leb b n.L (omega arith), lt-ltb n.L b (omega arith)) (refl, refl)
 
-  steps-add : (a b : ℕ) (s : Store) → (run n (a + b) s).steps ≡ (run n a s).steps + (run n b (after n a s)).steps
-  steps-add a b s = ap (λ r. r.steps) (run-add n a b s)
+  steps_add : (a b : ℕ) (s : Store) → (run n (a + b) s).steps ≡ (run n a s).steps + (run n b (after n a s)).steps
+  steps_add a b s = ap (λ r. r.steps) (run_add n a b s)
 
   -- settle calls, one after another, are one run
-  all-store : (budgets : List ℕ) (s : Store) → settle_all n budgets s ≡ after n (granted n budgets) s
+  all_store : (budgets : List ℕ) (s : Store) → settle_all n budgets s ≡ after n (granted n budgets) s
   unfolding settle_all granted run
-  all-store [] s = refl
-  all-store (b ∷ budgets) s = rw ((settle-runs b s).0, after-add) (all-store budgets (after n (allowed b) s))
+  all_store [] s = refl
+  all_store (b ∷ budgets) s = rw ((settle_runs b s).0, after_add) (all_store budgets (after n (allowed b) s))
 
-  all-steps : (budgets : List ℕ) (s : Store) → steps_in_all n budgets s ≡ (run n (granted n budgets) s).steps
+  all_steps : (budgets : List ℕ) (s : Store) → steps_in_all n budgets s ≡ (run n (granted n budgets) s).steps
   unfolding steps_in_all granted run
-  all-steps [] s = refl
-  all-steps (b ∷ budgets) s = rw ((settle-runs b s).1, (settle-runs b s).0, steps-add, all-steps budgets)
+  all_steps [] s = refl
+  all_steps (b ∷ budgets) s = rw ((settle_runs b s).1, (settle_runs b s).0, steps_add, all_steps budgets)
 
   -- no run does more steps than empty the queue
-  steps-within : (m b : ℕ) (s : Store) → (after n m s).waiting ≡ [] → (run n b s).steps ≤ m
-  steps-within m b s e = go (dec_le b m)
+  steps_within : (m b : ℕ) (s : Store) → (after n m s).waiting ≡ [] → (run n b s).steps ≤ m
+  steps_within m b s e = go (dec_le b m)
     where
       go : Dec (b ≤ m) → (run n b s).steps ≤ m
-      go (yes l) = omega (arith, run-steps n b s)
+      go (yes l) = omega (arith, run_steps n b s)
       go (no l) =
           let d : b ≡ m + (b - m) = omega arith in
-          rw (d, steps-add, run-idle n (b - m) (after n m s) e) (omega (arith, run-steps n m s))
+          rw (d, steps_add, run_idle n (b - m) (after n m s) e) (omega (arith, run_steps n m s))
 
   granted_ones : (m : ℕ) → 1 ≤ n.L → granted n (replicate m 1) ≡ m
   unfolding granted
@@ -62,8 +62,8 @@ module _ (n : Numbers) where
 
 pub demand_3 : Demand3
 demand_3 n into s sound fit = record {
-  empties = λ budgets l. rw (all-store n budgets s) (later n (bound n s) (granted n budgets) s empty l);
-  within = λ budgets. rw (all-steps n budgets s) (steps-within n (bound n s) (granted n budgets) s empty);
+  empties = λ budgets l. rw (all_store n budgets s) (later n (bound n s) (granted n budgets) s empty l);
+  within = λ budgets. rw (all_steps n budgets s) (steps_within n (bound n s) (granted n budgets) s empty);
   calls_exist = λ l. (replicate (bound n s) 1, omega (arith, granted_ones n (bound n s) l));
 }
   where
@@ -72,4 +72,4 @@ demand_3 n into s sound fit = record {
 
 pub demand_3_converse : Demand3Converse
 demand_3_converse n into s sound x G g lt budgets none =
-    never-empty n into s sound G g.once (λ k m. (g.linked k m).0) lt (granted n budgets) (rw (all-store n budgets s) at none)
+    never_empty n into s sound G g.once (λ k m. (g.linked k m).0) lt (granted n budgets) (rw (all_store n budgets s) at none)

@@ -9,7 +9,7 @@ use native.Mathlib.Omega.{arith}
 use lib.ListN.{length}
 use Rattle.lists.specs.Lists.{◌∈◌, NoDup}
 use Rattle.lists.proofs.Weigh.{weigh, weigh-append, is_one}
-use Rattle.numbers.proofs.Ranges.{good-nonzero}
+use Rattle.numbers.proofs.Ranges.{good_nonzero}
 use Rattle.rules.specs.Store.{Table, other, meant, Cell, Entry, cell_at, put_cell, Store, Numbers, IntoCells}
 use Rattle.rules.specs.Step.{taken, headed, is_marked, landed, set_aside, moved, step_at, step}
 use Rattle.rules.specs.Run.{run}
@@ -19,9 +19,9 @@ use Rattle.rules.specs.Keeps.{StepKeepsSound, StepKeepsLookup}
 use Rattle.rules.proofs.Steps.{by_kind, by_front}
 use Rattle.rules.proofs.Runs.{run-keeps}
 use Rattle.rules.specs.Contents.{contents}
-use Rattle.rules.proofs.Weights.{only, only-free, only-held, weight_in, waiting_weight, weight, weight-put, to_present, of_present_weight, once-weight, weight-once, to_contents, of_contents_weight, is_cell}
+use Rattle.rules.proofs.Weights.{only, only_free, only-held, weight_in, waiting_weight, weight, weight_put, to_present, of_present_weight, once_weight, weight_once, to_contents, of_contents_weight, is_cell}
 use Rattle.rules.proofs.Lookup.{Looked, looked, lookup-held, lookup_absent}
-use Rattle.rules.proofs.Parts.{TablesSound, EntrySound, parts, tables_of, queue_of, marks_of, put-sound, side-sound, queue_behind, queue-front, no_marks, mark_more}
+use Rattle.rules.proofs.Parts.{TablesSound, EntrySound, parts, tables_of, queue_of, marks_of, put_sound, side_sound, queue_behind, queue_front, no_marks, mark_more}
 
 -- two stores hold the same keys with the same values
 pub Same : Store → Store → Type 0
@@ -35,20 +35,20 @@ pub same_trans : (s u x : Store) → Same s u → Same u x → Same s x
 unfolding Same
 same_trans s u x p q w = q w ∙ p w
 
-pub same-present : (s u : Store) → Same s u → (k : ℕ) → (k ∈ present u) ↔ (k ∈ present s)
+pub same_present : (s u : Store) → Same s u → (k : ℕ) → (k ∈ present u) ↔ (k ∈ present s)
 unfolding Same
-same-present s u same k = (
+same_present s u same k = (
   λ m. to_present k s (omega (arith, of_present_weight k u m, same (λ c. is_one k c.key))),
   λ m. to_present k u (omega (arith, of_present_weight k s m, same (λ c. is_one k c.key))),
 )
 
-pub same-contents : (s u : Store) → Same s u → (c : Cell) → c ∈ contents s → c ∈ contents u
+pub same_contents : (s u : Store) → Same s u → (c : Cell) → c ∈ contents s → c ∈ contents u
 unfolding Same
-same-contents s u same c m = to_contents c u (omega (arith, of_contents_weight c s m, same (is_cell c)))
+same_contents s u same c m = to_contents c u (omega (arith, of_contents_weight c s m, same (is_cell c)))
 
 same_once : (s u : Store) → Same s u → NoDup (present s) → NoDup (present u)
 unfolding Same
-same_once s u same d = once-weight u (λ k. omega (arith, weight-once s d k, same (λ c. is_one k c.key)))
+same_once s u same d = once_weight u (λ k. omega (arith, weight_once s d k, same (λ c. is_one k c.key)))
 
 -- lookup answers what is held
 pub lookup_as : (n : Numbers) (s u : Store) → SoundContents n s → SoundContents n u → (k : ℕ) → IsGood k
@@ -60,69 +60,69 @@ lookup_as n s u sound sound' k good onward back =
 pub waiting_behind : (w : Cell → ℕ) (q : List Entry) (e : Entry) → waiting_weight w (q ++ e ∷ []) ≡ waiting_weight w q + w (taken e)
 waiting_behind w q e = weigh-append (λ x. w (taken x)) q (e ∷ []) ∙ unfold weigh in omega arith
 
-waiting-front : (w : Cell → ℕ) (e : Entry) (q : List Entry) → waiting_weight w (e ∷ q) ≡ w (taken e) + waiting_weight w q
-waiting-front w e q = unfold weigh in refl
+waiting_front : (w : Cell → ℕ) (e : Entry) (q : List Entry) → waiting_weight w (e ∷ q) ≡ w (taken e) + waiting_weight w q
+waiting_front w e q = unfold weigh in refl
 
 -- a step with e in front, in table t, e's home being i
 module _ (n : Numbers) (t : Table) (i : ℕ) (e : Entry) (q : List Entry) (s : Store) (sound : SoundContents n s) (front : s.waiting ≡ e ∷ q)
-    (home : n.home t e.key ≡ i) (IsInside : i < n.r) where
+    (home : n.home t e.key ≡ i) (inside : i < n.r) where
   e-sound : EntrySound e
   e-sound = (queue_of n s sound).entries e (subst (λ l. e ∈ l) (sym front) (here refl))
 
-  q-sound : (d : Entry) → d ∈ q → EntrySound d
-  q-sound d m = (queue_of n s sound).entries d (subst (λ l. d ∈ l) (sym front) (there m))
+  q_sound : (d : Entry) → d ∈ q → EntrySound d
+  q_sound d m = (queue_of n s sound).entries d (subst (λ l. d ∈ l) (sym front) (there m))
 
   nonzero : e.key ≢ 0
-  nonzero = good-nonzero e.key e-sound.0
+  nonzero = good_nonzero e.key e-sound.0
 
   room : length q < n.Q
-  room = omega (arith, sound.queue-fits, ap length front)
+  room = omega (arith, sound.queue_fits, ap length front)
 
-  old-weight : (w : Cell → ℕ) → weight w s ≡ weight_in w s.tables + (w (taken e) + waiting_weight w q)
+  old_weight : (w : Cell → ℕ) → weight w s ≡ weight_in w s.tables + (w (taken e) + waiting_weight w q)
   unfolding weight
-  old-weight w = ap (λ l. weight_in w s.tables + waiting_weight w l) front ∙ ap (λ m. weight_in w s.tables + m) (waiting-front w e q)
+  old_weight w = ap (λ l. weight_in w s.tables + waiting_weight w l) front ∙ ap (λ m. weight_in w s.tables + m) (waiting_front w e q)
 
   put : (w : Cell → ℕ) → weight_in w (put_cell s.tables t i (taken e)) + only w (cell_at s.tables t i) ≡ weight_in w s.tables + w (taken e)
-  put w = weight-put w s.tables t i (taken e) (omega (arith, sound.table-size t)) ∙ ap (λ m. weight_in w s.tables + m) (only-held w (taken e) nonzero)
+  put w = weight_put w s.tables t i (taken e) (omega (arith, sound.table_size t)) ∙ ap (λ m. weight_in w s.tables + m) (only-held w (taken e) nonzero)
 
-  put-tables : TablesSound n (put_cell s.tables t i (taken e))
-  put-tables = put-sound n s.tables (tables_of n s sound) t i (taken e) IsInside (record { good = λ z. e-sound.0; at_home = λ z. home; free = λ z. absurd (nonzero z) })
+  put_tables : TablesSound n (put_cell s.tables t i (taken e))
+  put_tables = put_sound n s.tables (tables_of n s sound) t i (taken e) inside (record { good = λ z. e-sound.0; at_home = λ z. home; free = λ z. absurd (nonzero z) })
 
   -- kind 1
-  landed-same : (cell_at s.tables t i).key ≡ 0 → Same s (landed t i e q s)
+  landed_same : (cell_at s.tables t i).key ≡ 0 → Same s (landed t i e q s)
   unfolding Same weight
-  landed-same free w = omega (arith, put w, only-free w (cell_at s.tables t i) free, old-weight w)
+  landed_same free w = omega (arith, put w, only_free w (cell_at s.tables t i) free, old_weight w)
 
   -- kind 2
   aside_same : Same s (set_aside t e q s)
   unfolding Same weight
-  aside_same w = omega (arith, waiting_behind w q (headed t (taken e)), old-weight w)
+  aside_same w = omega (arith, waiting_behind w q (headed t (taken e)), old_weight w)
 
   -- kind 3
   moved_same : (cell_at s.tables t i).key ≢ 0 → Same s (moved t i e q s)
   unfolding Same weight
-  moved_same taken w = omega (arith, put w, only-held w (cell_at s.tables t i) taken, old-weight w, waiting-front w (headed (other t) (cell_at s.tables t i)) q)
+  moved_same taken w = omega (arith, put w, only-held w (cell_at s.tables t i) taken, old_weight w, waiting_front w (headed (other t) (cell_at s.tables t i)) q)
 
   -- a step leaves a sound store that holds the same
   abbrev Keeps : Store → Type 0
   Keeps u = SoundContents n u × Same s u
 
   landed-keeps : (cell_at s.tables t i).key ≡ 0 → Keeps (landed t i e q s)
-  landed-keeps free = (parts n _ put-tables (record { fits = omega (arith, room); entries = q-sound }) (no_marks n) (same_once s _ (landed-same free) sound.no_key_twice), landed-same free)
+  landed-keeps free = (parts n _ put_tables (record { fits = omega (arith, room); entries = q_sound }) (no_marks n) (same_once s _ (landed_same free) sound.no_key_twice), landed_same free)
 
-  aside-keeps : Keeps (set_aside t e q s)
-  aside-keeps = (parts n _ (tables_of n s sound) (queue_behind n q (headed t (taken e)) room q-sound (e-sound.0, side-sound t)) (no_marks n) (same_once s _ aside_same sound.no_key_twice), aside_same)
+  aside_keeps : Keeps (set_aside t e q s)
+  aside_keeps = (parts n _ (tables_of n s sound) (queue_behind n q (headed t (taken e)) room q_sound (e-sound.0, side_sound t)) (no_marks n) (same_once s _ aside_same sound.no_key_twice), aside_same)
 
   moved_keeps : (cell_at s.tables t i).key ≢ 0 → is_marked e.key t s.marked ≡ mathlib.Core.Bool.false → length s.marked < n.D → Keeps (moved t i e q s)
   moved_keeps held fresh l = (
-    parts n _ put-tables
-        (queue-front n q (headed (other t) (cell_at s.tables t i)) room q-sound (sound.good-cell t i held, side-sound (other t)))
+    parts n _ put_tables
+        (queue_front n q (headed (other t) (cell_at s.tables t i)) room q_sound (sound.good_cell t i held, side_sound (other t)))
         (mark_more n s.marked e.key t (marks_of n s sound) l fresh e-sound.0) (same_once s _ (moved_same held) sound.no_key_twice),
     moved_same held,
   )
 
   step_in_keeps : Keeps (step_at n.D t i e q s).store
-  step_in_keeps = by_kind (λ d. Keeps d.store) n.D t i e q s landed-keeps (λ held w. aside-keeps) moved_keeps
+  step_in_keeps = by_kind (λ d. Keeps d.store) n.D t i e q s landed-keeps (λ held w. aside_keeps) moved_keeps
 
 module _ (n : Numbers) (into : IntoCells n) where
   step_keeps : (s : Store) → SoundContents n s → SoundContents n (step n s).store × Same s (step n s).store
@@ -133,21 +133,21 @@ module _ (n : Numbers) (into : IntoCells n) where
   step-sound s sound = (step_keeps s sound).0
 
   pub step-present : (s : Store) → SoundContents n s → (k : ℕ) → (k ∈ present (step n s).store) ↔ (k ∈ present s)
-  step-present s sound k = same-present s (step n s).store (step_keeps s sound).1 k
+  step-present s sound k = same_present s (step n s).store (step_keeps s sound).1 k
 
   -- and so does a run
   pub run_sound_same : (b : ℕ) (s : Store) → SoundContents n s → SoundContents n (run n b s).store × Same s (run n b s).store
   run_sound_same b s sound = run-keeps n (λ u. SoundContents n u × Same s u)
       (λ u k. ((step_keeps u k.0).0, same_trans s u (step n u).store k.1 (step_keeps u k.0).1)) b s (sound, same_refl s)
 
-  same-lookup : (s u : Store) → SoundContents n s → SoundContents n u → Same s u → (k : ℕ) → IsGood k → lookup n k u ≡ lookup n k s
-  same-lookup s u sound sound' same k good = lookup_as n s u sound sound' k good (λ v. same-contents s u same (record { key = k; value = v })) (λ m. (same-present s u same k).0 m)
+  same_lookup : (s u : Store) → SoundContents n s → SoundContents n u → Same s u → (k : ℕ) → IsGood k → lookup n k u ≡ lookup n k s
+  same_lookup s u sound sound' same k good = lookup_as n s u sound sound' k good (λ v. same_contents s u same (record { key = k; value = v })) (λ m. (same_present s u same k).0 m)
 
   pub run-lookup : (b : ℕ) (s : Store) → SoundContents n s → (k : ℕ) → IsGood k → lookup n k (run n b s).store ≡ lookup n k s
-  run-lookup b s sound k good = let r = run_sound_same b s sound in same-lookup s (run n b s).store sound r.0 r.1 k good
+  run-lookup b s sound k good = let r = run_sound_same b s sound in same_lookup s (run n b s).store sound r.0 r.1 k good
 
   pub step-lookup : (s : Store) → SoundContents n s → (k : ℕ) → IsGood k → lookup n k (step n s).store ≡ lookup n k s
-  step-lookup s sound k good = let r = step_keeps s sound in same-lookup s (step n s).store sound r.0 r.1 k good
+  step-lookup s sound k good = let r = step_keeps s sound in same_lookup s (step n s).store sound r.0 r.1 k good
 
 pub step_keeps_sound : StepKeepsSound
 step_keeps_sound n into s sound = step-sound n into s sound

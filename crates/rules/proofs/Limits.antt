@@ -14,7 +14,7 @@ use Rattle.rules.specs.Run.{run}
 use Rattle.rules.specs.Search.{search, lookup}
 use Rattle.rules.specs.Calls.{Outcome, refused, accepted, accepted_run, refuse_if, refuse5, or_refuse7, joined, with_value, without, find, define, change, remove, settle, Call, Find, Define, Change, Remove, Settle, does}
 use Rattle.rules.specs.Limits.{Limited, CallsAreLimited, Untouched, RefusalsChangeNothing}
-use Rattle.rules.proofs.Runs.{run-steps, run-moves}
+use Rattle.rules.proofs.Runs.{run_steps, run_moves}
 
 -- what holds of every refusal, of every accepted call without steps and of every run within L holds of each call
 module _ (n : Numbers) (s : Store) (P : Outcome → Type 0) (no_call : (number value : ℕ) → number ≢ 0 → (number ≢ 5 → value ≡ 0) → P (refused number value s)) (still : (value : ℕ) (u : Store) → P (accepted value u))
@@ -47,7 +47,7 @@ pub calls_are_limited : CallsAreLimited
 calls_are_limited n call s = by_outcome n s (Limited n)
     (λ number value nz held. record { steps_at_most_L = omega arith; moves_at_most_steps = omega arith })
     (λ value u. record { steps_at_most_L = omega arith; moves_at_most_steps = omega arith })
-    (λ b l u. record { steps_at_most_L = omega (arith, run-steps n b u); moves_at_most_steps = run-moves n b u }) call
+    (λ b l u. record { steps_at_most_L = omega (arith, run_steps n b u); moves_at_most_steps = run_moves n b u }) call
 
 pub refusals_change_nothing : RefusalsChangeNothing
 refusals_change_nothing n call s = by_outcome n s (λ o. o.answer.number ≢ 0 → Untouched s o)

@@ -11,7 +11,7 @@ use native.Mathlib.Omega.{arith}
 use borrow.Author.Tests.{eqb-true, eqb-false}
 use lib.Dec.{eqb}
 use Rattle.lists.specs.Lists.{◌∈◌}
-use Rattle.numbers.proofs.Ranges.{good-nonzero}
+use Rattle.numbers.proofs.Ranges.{good_nonzero}
 use Rattle.rules.specs.Store.{Table, table_0, table_1, Entry, cell_at, Store, Numbers}
 use Rattle.rules.specs.Search.{Place, in_table, waiting_at, nowhere, search_queue, search, entry_at, key_at, value_at, lookup}
 use Rattle.rules.specs.Sound.{present, IsGood, SoundContents}
@@ -25,10 +25,10 @@ Nobody x q = (e : Entry) → e ∈ q → e.key ≢ x
 QueueSearch : ℕ → ℕ → List Entry → Place → Type 0
 QueueSearch j x q p = ((p ≡ nowhere) × Nobody x q) ⊎ ((i : ℕ) × (p ≡ waiting_at (j + i)) × ((entry_at q i).key ≡ x))
 
-search-queue : (j x : ℕ) (q : List Entry) → QueueSearch j x q (search_queue j x q)
+search_queue_lem : (j x : ℕ) (q : List Entry) → QueueSearch j x q (search_queue j x q)
 unfolding search_queue QueueSearch
-search-queue j x [] = inl (refl, λ e m. absurd (not-nil m))
-search-queue j x (e ∷ q) = go (eqb e.key x) refl (search-queue (suc j) x q)
+search_queue_lem j x [] = inl (refl, λ e m. absurd (not-nil m))
+search_queue_lem j x (e ∷ q) = go (eqb e.key x) refl (search_queue_lem (suc j) x q)
   where
     go : (b : Bool) → eqb e.key x ≡ b → QueueSearch (suc j) x q (search_queue (suc j) x q) → QueueSearch j x (e ∷ q) (cond b (waiting_at j) (search_queue (suc j) x q))
     go true t r = inr (0, ap waiting_at (omega arith), eqb-true e.key x t)
@@ -48,7 +48,7 @@ module _ (n : Numbers) (x : ℕ) (s : Store) where
   searched = first (eqb (cell_at s.tables table_0 (n.home table_0 x)).key x) refl
     where
       third : Misses table_0 → Misses table_1 → Searched (search_queue 0 x s.waiting)
-      third f g = ⊎_elim (λ t. inr (t.0, f, g, t.1)) (λ t. inl (ap (λ p. key_at p s) (t.1 ∙ ap waiting_at (omega arith)) ∙ t.2)) (search-queue 0 x s.waiting)
+      third f g = ⊎_elim (λ t. inr (t.0, f, g, t.1)) (λ t. inl (ap (λ p. key_at p s) (t.1 ∙ ap waiting_at (omega arith)) ∙ t.2)) (search_queue_lem 0 x s.waiting)
 
       second : (b : Bool) → eqb (cell_at s.tables table_1 (n.home table_1 x)).key x ≡ b → Misses table_0
           → Searched (cond b (in_table table_1 (n.home table_1 x)) (search_queue 0 x s.waiting))
@@ -62,27 +62,27 @@ module _ (n : Numbers) (x : ℕ) (s : Store) where
 
 module _ (n : Numbers) (s : Store) (sound : SoundContents n s) (x : ℕ) (good : IsGood x) where
   missed : (t : Table) (i : ℕ) → Misses n x s t → (cell_at s.tables t i).key ≢ x
-  missed t i f e = f (ap (λ j. (cell_at s.tables t j).key) (ap (n.home t) (sym e) ∙ sound.at_home t i (λ z. good-nonzero x good (sym e ∙ z))) ∙ e)
+  missed t i f e = f (ap (λ j. (cell_at s.tables t j).key) (ap (n.home t) (sym e) ∙ sound.at_home t i (λ z. good_nonzero x good (sym e ∙ z))) ∙ e)
 
   -- where a key lies, there the search finds it
-  pub search-finds : (p : Place) → key_at p s ≡ x → search n x s ≡ p
+  pub search_finds : (p : Place) → key_at p s ≡ x → search n x s ≡ p
   unfolding Searched
-  search-finds p e = ⊎_elim (λ k. one_place n s sound (search n x s) p (λ z. good-nonzero x good (sym k ∙ z)) (k ∙ sym e)) (λ t. absurd (nobody p e t)) (searched n x s)
+  search_finds p e = ⊎_elim (λ k. one_place n s sound (search n x s) p (λ z. good_nonzero x good (sym k ∙ z)) (k ∙ sym e)) (λ t. absurd (nobody p e t)) (searched n x s)
     where
       nobody : (p : Place) → key_at p s ≡ x → (search n x s ≡ nowhere) × Misses n x s table_0 × Misses n x s table_1 × Nobody x s.waiting → ⊥
       nobody (in_table table_0 i) e t = missed table_0 i t.1 e
       nobody (in_table table_1 i) e t = missed table_1 i t.2 e
-      nobody (waiting_at j) e t = t.3 (entry_at s.waiting j) (entry_in s.waiting j (entry-within s.waiting j (λ z. good-nonzero x good (sym e ∙ z)))) e
-      nobody nowhere e t = good-nonzero x good (sym e)
+      nobody (waiting_at j) e t = t.3 (entry_at s.waiting j) (entry_in s.waiting j (entry-within s.waiting j (λ z. good_nonzero x good (sym e ∙ z)))) e
+      nobody nowhere e t = good_nonzero x good (sym e)
 
   -- what is held is looked up, and a key that is not present is not
   pub lookup-held : (v : ℕ) → record { key = x; value = v } ∈ contents s → lookup n x s ≡ some v
   unfolding lookup
-  lookup-held v m = let t = of_contents s (record { key = x; value = v }) m in ap (λ p. value_at p s) (search-finds t.0 t.1) ∙ t.2
+  lookup-held v m = let t = of_contents s (record { key = x; value = v }) m in ap (λ p. value_at p s) (search_finds t.0 t.1) ∙ t.2
 
   pub lookup_absent : (x ∈ present s → ⊥) → lookup n x s ≡ none
   unfolding lookup Searched
-  lookup_absent f = ⊎_elim (λ k. absurd (f (subst (λ y. y ∈ present s) k (in_present s (search n x s) (λ z. good-nonzero x good (sym k ∙ z)))))) (λ t. ap (λ p. value_at p s) t.0) (searched n x s)
+  lookup_absent f = ⊎_elim (λ k. absurd (f (subst (λ y. y ∈ present s) k (in_present s (search n x s) (λ z. good_nonzero x good (sym k ∙ z)))))) (λ t. ap (λ p. value_at p s) t.0) (searched n x s)
 
   -- a key is held with a value, which lookup answers, or it lies nowhere
   unfoldable pub Looked : Option ℕ → Type 0
@@ -94,16 +94,16 @@ module _ (n : Numbers) (s : Store) (sound : SoundContents n s) (x : ℕ) (good :
     where
       absent : search n x s ≡ nowhere → x ∈ present s → ⊥
       absent w m = let t = of_present n s sound x m in
-          good-nonzero x good (sym t.1 ∙ ap (λ p. key_at p s) (sym (search-finds t.0 t.1) ∙ w))
+          good_nonzero x good (sym t.1 ∙ ap (λ p. key_at p s) (sym (search_finds t.0 t.1) ∙ w))
 
       value : (p : Place) → key_at p s ≡ x → (v : ℕ) × (value_at p s ≡ some v)
       value (in_table t i) e = ((cell_at s.tables t i).value, refl)
       value (waiting_at j) e = ((entry_at s.waiting j).value, refl)
-      value nowhere e = absurd (good-nonzero x good (sym e))
+      value nowhere e = absurd (good_nonzero x good (sym e))
 
       found : key_at (search n x s) s ≡ x → Looked (value_at (search n x s) s)
       found k = let u = value (search n x s) k in
-          inl (u.0, u.1, k, subst (λ y. record { key = y; value = u.0 } ∈ contents s) k (in_contents s (search n x s) u.0 (λ z. good-nonzero x good (sym k ∙ z)) u.1))
+          inl (u.0, u.1, k, subst (λ y. record { key = y; value = u.0 } ∈ contents s) k (in_contents s (search n x s) u.0 (λ z. good_nonzero x good (sym k ∙ z)) u.1))
 
   -- what is looked up is held
   pub held_found : (v : ℕ) → lookup n x s ≡ some v → record { key = x; value = v } ∈ contents s

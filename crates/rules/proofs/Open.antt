@@ -19,10 +19,10 @@ unfolding occupied
 none_occupied zero = refl
 none_occupied (suc r) = none_occupied r
 
-free-cells : (r i : ℕ) → get_or (replicate r free_cell) i free_cell ≡ free_cell
-free-cells zero i = refl
-free-cells (suc r) zero = refl
-free-cells (suc r) (suc i) = free-cells r i
+free_cells : (r i : ℕ) → get_or (replicate r free_cell) i free_cell ≡ free_cell
+free_cells zero i = refl
+free_cells (suc r) zero = refl
+free_cells (suc r) (suc i) = free_cells r i
 
 pub fresh-present : (n : Numbers) → present (fresh n) ≡ []
 unfolding present fresh
@@ -42,8 +42,8 @@ fresh-sound n = parts n (fresh n) (unfold fresh in record {
     size table_1 = unfold fresh in length-replicate n.r free_cell
 
     free : (t : Table) (i : ℕ) → cell_at (fresh n).tables t i ≡ free_cell
-    free table_0 i = unfold fresh in free-cells n.r i
-    free table_1 i = unfold fresh in free-cells n.r i
+    free table_0 i = unfold fresh in free_cells n.r i
+    free table_1 i = unfold fresh in free_cells n.r i
 
 pub open_is_sound : OpenIsSound
 open_is_sound = fresh-sound

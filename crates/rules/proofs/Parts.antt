@@ -43,29 +43,29 @@ pub record MarksSound (n : Numbers) (ps : List Pair) : Type 0 where
 module _ (n : Numbers) (s : Store) where
   pub parts : TablesSound n s.tables → QueueSound n s.waiting → MarksSound n s.marked → NoDup (present s) → SoundContents n s
   parts ts q ps once = record {
-    table-size = ts.size;
-    queue-fits = q.fits;
-    detector-fits = ps.fits;
-    good-cell = ts.good;
+    table_size = ts.size;
+    queue_fits = q.fits;
+    detector_fits = ps.fits;
+    good_cell = ts.good;
     at_home = ts.at_home;
-    free-cell = ts.free;
-    good-entry = λ e m. (q.entries e m).0;
-    entry-side = λ e m. (q.entries e m).1;
-    good-pair = ps.good;
-    pair-side = ps.sides;
-    pairs-differ = ps.differ;
+    free_value = ts.free;
+    good_entry = λ e m. (q.entries e m).0;
+    entry_side = λ e m. (q.entries e m).1;
+    good_pair = ps.good;
+    pair_side = ps.sides;
+    pairs_differ = ps.differ;
     no_key_twice = once;
   }
 
   module _ (sound : SoundContents n s) where
     pub tables_of : TablesSound n s.tables
-    tables_of = record { size = sound.table-size; good = sound.good-cell; at_home = sound.at_home; free = sound.free-cell }
+    tables_of = record { size = sound.table_size; good = sound.good_cell; at_home = sound.at_home; free = sound.free_value }
 
     pub queue_of : QueueSound n s.waiting
-    queue_of = record { fits = sound.queue-fits; entries = λ e m. (sound.good-entry e m, sound.entry-side e m) }
+    queue_of = record { fits = sound.queue_fits; entries = λ e m. (sound.good_entry e m, sound.entry_side e m) }
 
     pub marks_of : MarksSound n s.marked
-    marks_of = record { fits = sound.detector-fits; good = sound.good-pair; sides = sound.pair-side; differ = sound.pairs-differ }
+    marks_of = record { fits = sound.detector_fits; good = sound.good_pair; sides = sound.pair_side; differ = sound.pairs_differ }
 
 -- a cell put: that cell is the new one, and every other is as it was
 pub set_cases : (cs : List Cell) (i j : ℕ) (c : Cell) → i < length cs → ((j ≡ i) × (get_or (set cs i c) j free_cell ≡ c)) ⊎ ((j ≢ i) × (get_or (set cs i c) j free_cell ≡ get_or cs j free_cell))
@@ -93,15 +93,15 @@ pub record CellSound (n : Numbers) (t : Table) (i : ℕ) (c : Cell) : Type 0 whe
   pub at_home : c.key ≢ 0 → n.home t c.key ≡ i
   pub free : c.key ≡ 0 → c.value ≡ 0
 
-pub put-size : (ts : Tables) (t : Table) (i : ℕ) (c : Cell) (u : Table) → length (table_of u (put_cell ts t i c)) ≡ length (table_of u ts)
-put-size ts table_0 i c table_0 = length-set ts.table0 i c
-put-size ts table_0 i c table_1 = refl
-put-size ts table_1 i c table_0 = refl
-put-size ts table_1 i c table_1 = length-set ts.table1 i c
+pub put_size : (ts : Tables) (t : Table) (i : ℕ) (c : Cell) (u : Table) → length (table_of u (put_cell ts t i c)) ≡ length (table_of u ts)
+put_size ts table_0 i c table_0 = length-set ts.table0 i c
+put_size ts table_0 i c table_1 = refl
+put_size ts table_1 i c table_0 = refl
+put_size ts table_1 i c table_1 = length-set ts.table1 i c
 
-pub put-sound : (n : Numbers) (ts : Tables) → TablesSound n ts → (t : Table) (i : ℕ) (c : Cell) → i < n.r → CellSound n t i c → TablesSound n (put_cell ts t i c)
-put-sound n ts sound t i c l new = record {
-  size = λ u. put-size ts t i c u ∙ sound.size u;
+pub put_sound : (n : Numbers) (ts : Tables) → TablesSound n ts → (t : Table) (i : ℕ) (c : Cell) → i < n.r → CellSound n t i c → TablesSound n (put_cell ts t i c)
+put_sound n ts sound t i c l new = record {
+  size = λ u. put_size ts t i c u ∙ sound.size u;
   good = λ u j. (cell u j).good;
   at_home = λ u j. (cell u j).at_home;
   free = λ u j. (cell u j).free;
@@ -114,13 +114,13 @@ put-sound n ts sound t i c l new = record {
     cell u j = ⊎_elim (λ e. rw (e.2, e.1, e.0) new) (λ e. rw e.1 (old u j)) (put_cases ts t i c (omega (arith, sound.size t)) u j)
 
 -- sides that a step writes
-pub side-sound : (t : Table) → IsSide (side_of t)
-side-sound table_0 = inl refl
-side-sound table_1 = inr refl
+pub side_sound : (t : Table) → IsSide (side_of t)
+side_sound table_0 = inl refl
+side_sound table_1 = inr refl
 
-pub meant-side : (t : Table) → meant (side_of t) ≡ t
-meant-side table_0 = refl
-meant-side table_1 = refl
+pub meant_side : (t : Table) → meant (side_of t) ≡ t
+meant_side table_0 = refl
+meant_side table_1 = refl
 
 pub same_table_refl : (t : Table) → same_table t t ≡ true
 same_table_refl table_0 = refl
@@ -130,8 +130,8 @@ same_table_refl table_1 = refl
 pub queue_behind : (n : Numbers) (q : List Entry) (e : Entry) → length q < n.Q → ((d : Entry) → d ∈ q → EntrySound d) → EntrySound e → QueueSound n (q ++ e ∷ [])
 queue_behind n q e l old new = record { fits = simp length-append (omega arith); entries = λ d m. ⊎_elim (old d) (λ i. subst EntrySound (sym (eq_of_singleton i)) new) (append_cases q m) }
 
-pub queue-front : (n : Numbers) (q : List Entry) (e : Entry) → length q < n.Q → ((d : Entry) → d ∈ q → EntrySound d) → EntrySound e → QueueSound n (e ∷ q)
-queue-front n q e l old new = record { fits = omega arith; entries = λ d m. ⊎_elim (λ i. subst EntrySound (sym i) new) (old d) (split m) }
+pub queue_front : (n : Numbers) (q : List Entry) (e : Entry) → length q < n.Q → ((d : Entry) → d ∈ q → EntrySound d) → EntrySound e → QueueSound n (e ∷ q)
+queue_front n q e l old new = record { fits = omega arith; entries = λ d m. ⊎_elim (λ i. subst EntrySound (sym i) new) (old d) (split m) }
 
 -- an empty detector, and one mark more
 pub no_marks : (n : Numbers) → MarksSound n []
@@ -152,12 +152,12 @@ marked_in y t (here {x = q} {xs = ps} e) h = or_left (is_pair y t q) (is_marked 
 marked_in y t (there {x = q} {xs = ps} m) h = or_right (is_pair y t q) (is_marked y t ps) (marked_in y t m h)
 
 pub own_pair : (y : ℕ) (t : Table) → is_pair y t (pair y t) ≡ true
-own_pair y t = simp (eq-eqb y y refl, meant-side t, same_table_refl t)
+own_pair y t = simp (eq-eqb y y refl, meant_side t, same_table_refl t)
 
 pub mark_more : (n : Numbers) (ps : List Pair) (y : ℕ) (t : Table) → MarksSound n ps → length ps < n.D → is_marked y t ps ≡ false → IsGood y → MarksSound n (ps ++ pair y t ∷ [])
 mark_more n ps y t old l fresh good = record {
   fits = simp length-append (omega arith);
   good = λ p m. ⊎_elim (old.good p) (λ i. subst (λ (x : Pair). IsGood x.key) (sym (eq_of_singleton i)) good) (append_cases ps m);
-  sides = λ p m. ⊎_elim (old.sides p) (λ i. subst (λ (x : Pair). IsSide x.side) (sym (eq_of_singleton i)) (side-sound t)) (append_cases ps m);
+  sides = λ p m. ⊎_elim (old.sides p) (λ i. subst (λ (x : Pair). IsSide x.side) (sym (eq_of_singleton i)) (side_sound t)) (append_cases ps m);
   differ = rotate (pair y t) ps old.differ (λ m. true≢false (sym (marked_in y t m (own_pair y t)) ∙ fresh));
 }

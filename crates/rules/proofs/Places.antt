@@ -25,7 +25,7 @@ use Rattle.rules.specs.Step.{taken}
 use Rattle.rules.specs.Search.{Place, in_table, waiting_at, nowhere, no_entry, entry_at, key_at, value_at}
 use Rattle.rules.specs.Sound.{occupied, cell_keys, entry_keys, present, SoundContents}
 use Rattle.rules.specs.Contents.{contents}
-use Rattle.numbers.proofs.Ranges.{good-nonzero}
+use Rattle.numbers.proofs.Ranges.{good_nonzero}
 
 -- an occupied cell is listed, and what is listed is an occupied cell
 pub in_occupied : (cs : List Cell) (i : ℕ) → (get_or cs i free_cell).key ≢ 0 → get_or cs i free_cell ∈ occupied cs
@@ -74,12 +74,12 @@ pub entry_place : {e : Entry} {q : List Entry} → e ∈ q → (j : ℕ) × (ent
 entry_place (here p) = (0, sym p, omega arith)
 entry_place (there m) = let t = entry_place m in (suc t.0, t.1, omega (arith, t.2))
 
-pub entry-once : (q : List Entry) → NoDup (entry_keys q) → (i j : ℕ) → i < length q → j < length q → (entry_at q i).key ≡ (entry_at q j).key → i ≡ j
-entry-once [] d i j a b e = absurd (omega arith)
-entry-once (x ∷ q) d zero zero a b e = refl
-entry-once (x ∷ q) d zero (suc j) a b e = absurd (nodup_head d (cast e (to_map (λ (y : Entry). y.key) (entry_in q j (omega arith)))))
-entry-once (x ∷ q) d (suc i) zero a b e = absurd (nodup_head d (cast (sym e) (to_map (λ (y : Entry). y.key) (entry_in q i (omega arith)))))
-entry-once (x ∷ q) d (suc i) (suc j) a b e = ap suc (entry-once q (nodup_tail d) i j (omega arith) (omega arith) e)
+pub entry_once : (q : List Entry) → NoDup (entry_keys q) → (i j : ℕ) → i < length q → j < length q → (entry_at q i).key ≡ (entry_at q j).key → i ≡ j
+entry_once [] d i j a b e = absurd (omega arith)
+entry_once (x ∷ q) d zero zero a b e = refl
+entry_once (x ∷ q) d zero (suc j) a b e = absurd (nodup_head d (cast e (to_map (λ (y : Entry). y.key) (entry_in q j (omega arith)))))
+entry_once (x ∷ q) d (suc i) zero a b e = absurd (nodup_head d (cast (sym e) (to_map (λ (y : Entry). y.key) (entry_in q i (omega arith)))))
+entry_once (x ∷ q) d (suc i) (suc j) a b e = ap suc (entry_once q (nodup_tail d) i j (omega arith) (omega arith) e)
 
 module _ (s : Store) where
   abbrev table_keys : Table → List ℕ
@@ -145,33 +145,33 @@ module _ (n : Numbers) (s : Store) (sound : SoundContents n s) where
 
       in_queue : k ∈ queue_keys s → (p : Place) × (key_at p s ≡ k) × (k ≢ 0)
       in_queue m = let u = of_map (λ (e : Entry). e.key) s.waiting m in let v = entry_place u.1 in
-          (waiting_at v.0, ap (λ (e : Entry). e.key) v.1 ∙ u.2, subst (λ x. x ≢ 0) u.2 (good-nonzero _ (sound.good-entry u.0 u.1)))
+          (waiting_at v.0, ap (λ (e : Entry). e.key) v.1 ∙ u.2, subst (λ x. x ≢ 0) u.2 (good_nonzero _ (sound.good_entry u.0 u.1)))
 
-  cells-apart : (i j : ℕ) → (cell_at s.tables table_0 i).key ≢ 0 → (cell_at s.tables table_0 i).key ≡ (cell_at s.tables table_1 j).key → ⊥
+  cells_apart : (i j : ℕ) → (cell_at s.tables table_0 i).key ≢ 0 → (cell_at s.tables table_0 i).key ≡ (cell_at s.tables table_1 j).key → ⊥
   unfolding present
-  cells-apart i j nz e = disjoint (table_keys s table_0) sound.no_key_twice (cell_key_in s table_0 i nz)
+  cells_apart i j nz e = disjoint (table_keys s table_0) sound.no_key_twice (cell_key_in s table_0 i nz)
       (append_left _ (cast e (cell_key_in s table_1 j (λ z. nz (e ∙ z)))))
 
-  queue-apart : (t : Table) (i j : ℕ) → (cell_at s.tables t i).key ≢ 0 → (cell_at s.tables t i).key ≡ (entry_at s.waiting j).key → ⊥
+  queue_apart : (t : Table) (i j : ℕ) → (cell_at s.tables t i).key ≢ 0 → (cell_at s.tables t i).key ≡ (entry_at s.waiting j).key → ⊥
   unfolding present
-  queue-apart table_0 i j nz e = disjoint (table_keys s table_0) sound.no_key_twice (cell_key_in s table_0 i nz)
+  queue_apart table_0 i j nz e = disjoint (table_keys s table_0) sound.no_key_twice (cell_key_in s table_0 i nz)
       (append_right (table_keys s table_1) (cast e (entry_key_in s j (λ z. nz (e ∙ z)))))
-  queue-apart table_1 i j nz e = disjoint (table_keys s table_1) (nodup_right (table_keys s table_0) sound.no_key_twice) (cell_key_in s table_1 i nz)
+  queue_apart table_1 i j nz e = disjoint (table_keys s table_1) (nodup_right (table_keys s table_0) sound.no_key_twice) (cell_key_in s table_1 i nz)
       (cast e (entry_key_in s j (λ z. nz (e ∙ z))))
 
-  same-cell : (t : Table) (i j : ℕ) → (cell_at s.tables t i).key ≢ 0 → (cell_at s.tables t i).key ≡ (cell_at s.tables t j).key → i ≡ j
-  same-cell t i j nz e = sym (sound.at_home t i nz) ∙ ap (n.home t) e ∙ sound.at_home t j (λ z. nz (e ∙ z))
+  same_cell : (t : Table) (i j : ℕ) → (cell_at s.tables t i).key ≢ 0 → (cell_at s.tables t i).key ≡ (cell_at s.tables t j).key → i ≡ j
+  same_cell t i j nz e = sym (sound.at_home t i nz) ∙ ap (n.home t) e ∙ sound.at_home t j (λ z. nz (e ∙ z))
 
   -- a key lies at one place only
   pub one_place : (p q : Place) → key_at p s ≢ 0 → key_at p s ≡ key_at q s → p ≡ q
-  one_place (in_table table_0 i) (in_table table_0 j) nz e = ap (in_table table_0) (same-cell table_0 i j nz e)
-  one_place (in_table table_1 i) (in_table table_1 j) nz e = ap (in_table table_1) (same-cell table_1 i j nz e)
-  one_place (in_table table_0 i) (in_table table_1 j) nz e = absurd (cells-apart i j nz e)
-  one_place (in_table table_1 i) (in_table table_0 j) nz e = absurd (cells-apart j i (λ z. nz (e ∙ z)) (sym e))
-  one_place (in_table t i) (waiting_at j) nz e = absurd (queue-apart t i j nz e)
+  one_place (in_table table_0 i) (in_table table_0 j) nz e = ap (in_table table_0) (same_cell table_0 i j nz e)
+  one_place (in_table table_1 i) (in_table table_1 j) nz e = ap (in_table table_1) (same_cell table_1 i j nz e)
+  one_place (in_table table_0 i) (in_table table_1 j) nz e = absurd (cells_apart i j nz e)
+  one_place (in_table table_1 i) (in_table table_0 j) nz e = absurd (cells_apart j i (λ z. nz (e ∙ z)) (sym e))
+  one_place (in_table t i) (waiting_at j) nz e = absurd (queue_apart t i j nz e)
   one_place (in_table t i) nowhere nz e = absurd (nz e)
-  one_place (waiting_at i) (in_table t j) nz e = absurd (queue-apart t j i (λ z. nz (e ∙ z)) (sym e))
-  one_place (waiting_at i) (waiting_at j) nz e = ap waiting_at (entry-once s.waiting once i j (entry-within s.waiting i nz) (entry-within s.waiting j (λ z. nz (e ∙ z))) e)
+  one_place (waiting_at i) (in_table t j) nz e = absurd (queue_apart t j i (λ z. nz (e ∙ z)) (sym e))
+  one_place (waiting_at i) (waiting_at j) nz e = ap waiting_at (entry_once s.waiting once i j (entry-within s.waiting i nz) (entry-within s.waiting j (λ z. nz (e ∙ z))) e)
     where
       once : NoDup (entry_keys s.waiting)
       once = unfold present in nodup_right (table_keys s table_1) (nodup_right (table_keys s table_0) sound.no_key_twice)

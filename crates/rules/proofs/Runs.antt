@@ -38,27 +38,27 @@ module _ (n : Numbers) where
   pub run-keeps : (P : Store → Type 0) → ((s : Store) → P s → P (step n s).store) → (b : ℕ) (s : Store) → P s → P (run n b s).store
   run-keeps P keeps = run_ind (λ b s r. P s → P r.store) (λ b s p. p) (λ b s r ih p. ih (keeps s p))
 
-  pub run-steps : (b : ℕ) (s : Store) → (run n b s).steps ≤ b
-  run-steps = run_ind (λ b s r. r.steps ≤ b) (λ b s. omega arith) (λ b s r ih. omega arith)
+  pub run_steps : (b : ℕ) (s : Store) → (run n b s).steps ≤ b
+  run_steps = run_ind (λ b s r. r.steps ≤ b) (λ b s. omega arith) (λ b s r ih. omega arith)
 
-  pub run-moves : (b : ℕ) (s : Store) → (run n b s).moves ≤ (run n b s).steps
-  run-moves = run_ind (λ b s r. r.moves ≤ r.steps) (λ b s. omega arith) (λ b s r ih. omega (arith, as_move_one (step n s).kind))
+  pub run_moves : (b : ℕ) (s : Store) → (run n b s).moves ≤ (run n b s).steps
+  run_moves = run_ind (λ b s r. r.moves ≤ r.steps) (λ b s. omega arith) (λ b s r ih. omega (arith, as_move_one (step n s).kind))
 
   -- with an empty queue there is no step
-  pub run-idle : (b : ℕ) (s : Store) → s.waiting ≡ [] → run n b s ≡ ran s 0 0
+  pub run_idle : (b : ℕ) (s : Store) → s.waiting ≡ [] → run n b s ≡ ran s 0 0
   unfolding run
-  run-idle zero s e = refl
-  run-idle (suc b) s e = ap (λ q. cond (is_empty q) (ran s 0 0) (counted (step n s).kind (run n b (step n s).store))) e
+  run_idle zero s e = refl
+  run_idle (suc b) s e = ap (λ q. cond (is_empty q) (ran s 0 0) (counted (step n s).kind (run n b (step n s).store))) e
 
   -- with a front entry there is one
   pub run_more : (b : ℕ) (s : Store) (e : Entry) (q : List Entry) → s.waiting ≡ e ∷ q → run n (suc b) s ≡ counted (step n s).kind (run n b (step n s).store)
   unfolding run
   run_more b s e q w = ap (λ l. cond (is_empty l) (ran s 0 0) (counted (step n s).kind (run n b (step n s).store))) w
 
-  pub run-add : (a b : ℕ) (s : Store) → run n (a + b) s ≡ join_runs (run n a s) (run n b (run n a s).store)
+  pub run_add : (a b : ℕ) (s : Store) → run n (a + b) s ≡ join_runs (run n a s) (run n b (run n a s).store)
   unfolding run
-  run-add zero b s = rw zero-add (λ i. ran (run n b s).store (sym (zero-add (run n b s).steps) i) (sym (zero-add (run n b s).moves) i))
-  run-add (suc a) b s = rw suc-add (pick s.waiting refl (run-add a b (step n s).store))
+  run_add zero b s = rw zero-add (λ i. ran (run n b s).store (sym (zero-add (run n b s).steps) i) (sym (zero-add (run n b s).moves) i))
+  run_add (suc a) b s = rw suc-add (pick s.waiting refl (run_add a b (step n s).store))
     where
       k : ℕ
       k = (step n s).kind
@@ -69,7 +69,7 @@ module _ (n : Numbers) where
       pick : (q : List Entry) → s.waiting ≡ q → run n (a + b) (step n s).store ≡ join_runs later (run n b later.store)
           → cond (is_empty q) (ran s 0 0) (counted k (run n (a + b) (step n s).store))
           ≡ join_runs (cond (is_empty q) (ran s 0 0) (counted k later)) (run n b (cond (is_empty q) (ran s 0 0) (counted k later)).store)
-      pick [] w ih = let e : run n b s ≡ ran s 0 0 = run-idle b s w in ap (join_runs (ran s 0 0)) (sym e)
+      pick [] w ih = let e : run n b s ≡ ran s 0 0 = run_idle b s w in ap (join_runs (ran s 0 0)) (sym e)
       pick (x ∷ q) w ih = ap (counted k) ih ∙ (λ i. ran (run n b later.store).store (up i) (across i))
         where
           up : suc (later.steps + (run n b later.store).steps) ≡ suc later.steps + (run n b later.store).steps

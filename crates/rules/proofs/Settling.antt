@@ -17,10 +17,10 @@ use Rattle.rules.specs.Groups.{Sided, itself, IsGroup, cells_of}
 use Rattle.rules.specs.Demand3.{bound, GroupsFit}
 use Rattle.rules.proofs.Sided.{sided_path}
 use Rattle.rules.proofs.Groups.{to_cells, group_of}
-use Rattle.rules.proofs.Runs.{run-keeps, run-idle, run_more, run-add}
+use Rattle.rules.proofs.Runs.{run-keeps, run_idle, run_more, run_add}
 use Rattle.rules.proofs.Places.{in_present, of_present}
 use Rattle.rules.proofs.Kept.{step-sound, step-present}
-use Rattle.rules.proofs.View.{heading, key_in, marks, target, Moves, seen, front-present, by_view}
+use Rattle.rules.proofs.View.{heading, key_in, marks, target, Moves, seen, front_present, by_view}
 use Rattle.rules.proofs.Walk.{Inv, first, unmarked, few, move}
 
 -- a queue is empty or has a front
@@ -33,21 +33,21 @@ module _ (n : Numbers) where
   abbrev pub after : ℕ → Store → Store
   after b s = (run n b s).store
 
-  after-idle : (b : ℕ) (s : Store) → s.waiting ≡ [] → after b s ≡ s
-  after-idle b s e = ap (λ r. r.store) (run-idle n b s e)
+  after_idle : (b : ℕ) (s : Store) → s.waiting ≡ [] → after b s ≡ s
+  after_idle b s e = ap (λ r. r.store) (run_idle n b s e)
 
   after_more : (b : ℕ) (s : Store) (e : Entry) (q : List Entry) → s.waiting ≡ e ∷ q → after (suc b) s ≡ after b (step n s).store
   after_more b s e q w = ap (λ r. r.store) (run_more n b s e q w)
 
-  pub after-add : (a b : ℕ) (s : Store) → after (a + b) s ≡ after b (after a s)
-  after-add a b s = ap (λ r. r.store) (run-add n a b s)
+  pub after_add : (a b : ℕ) (s : Store) → after (a + b) s ≡ after b (after a s)
+  after_add a b s = ap (λ r. r.store) (run_add n a b s)
 
   -- an empty queue stays empty
   stays : (b : ℕ) (s : Store) → s.waiting ≡ [] → (after b s).waiting ≡ []
-  stays b s e = rw (after-idle b s e) e
+  stays b s e = rw (after_idle b s e) e
 
   pub later : (b c : ℕ) (s : Store) → (after b s).waiting ≡ [] → b ≤ c → (after c s).waiting ≡ []
-  later b c s e l = let d : c ≡ b + (c - b) = omega arith in rw (d, after-add) (stays (c - b) (after b s) e)
+  later b c s e l = let d : c ≡ b + (c - b) = omega arith in rw (d, after_add) (stays (c - b) (after b s) e)
 
   -- some steps, at most b, lead to an empty detector with at most m keys waiting
   abbrev Quiet : ℕ → ℕ → Store → Type 0
@@ -92,7 +92,7 @@ module _ (n : Numbers) (into : IntoCells n) (s₀ : Store) where
 
   then_clean : (m k d b c : ℕ) (s : Store) → Within s → Quiet n m d s → Clean k b → m ≤ k → d + b ≤ c → (after n c s).waiting ≡ []
   then_clean m k d b c s o (t, l, r, e) clean short fits =
-      later n (t + b) c s (rw after-add (clean (after n t s) (omega arith) (run-within t s o) e)) (omega arith)
+      later n (t + b) c s (rw after_add (clean (after n t s) (omega arith) (run-within t s o) e)) (omega arith)
 
   -- a clean walk in a group that fits: before its pairs have all come up, a key has a cell
   module _ (f₀ : Sided) (G : List ℕ) (g : IsGroup n.home (present s₀) f₀.0 G)
@@ -102,24 +102,24 @@ module _ (n : Numbers) (into : IntoCells n) (s₀ : Store) where
     Comes s e = Inv n.home f₀ G (key_in s) (heading e) (marks s)
 
     module _ (s : Store) (e : Entry) (q : List Entry) (w : s.waiting ≡ e ∷ q) (k : Within s) (v : Comes s e) where
-      few-marks : length (marks s) < 2 * length G
-      few-marks = few f₀ g fits (seen n s k.0 e q w) v
+      few_marks : length (marks s) < 2 * length G
+      few_marks = few f₀ g fits (seen n s k.0 e q w) v
 
       not_aside : (heading e ∈ marks s) ⊎ (n.D ≤ length (marks s)) → ⊥
       not_aside (inl m) = unmarked f₀ g fits (seen n s k.0 e q w) v m
-      not_aside (inr l) = omega (arith, few-marks)
+      not_aside (inr l) = omega (arith, few_marks)
 
-      walk-on : (s' : Store) (next : Moves n s e q s') → key_in s (target n e) ≢ 0 → Comes s' next.next
-      walk-on s' next nz = subst₂ (Inv n.home f₀ G (key_in s')) (sym next.heads) (sym next.marked)
+      walk_on : (s' : Store) (next : Moves n s e q s') → key_in s (target n e) ≢ 0 → Comes s' next.next
+      walk_on s' next nz = subst₂ (Inv n.home f₀ G (key_in s')) (sym next.heads) (sym next.marked)
           (move f₀ g fits (seen n s k.0 e q w) v (key_in s') next.written nz (k.1 _ (in_present s (in_table (target n e).1 (target n e).0) nz)))
 
     walk : (b : ℕ) (s : Store) (e : Entry) (q : List Entry) → s.waiting ≡ e ∷ q → Within s → Comes s e → 2 * length G ≤ b + length (marks s)
         → Quiet n (length q) b s
-    walk zero s e q w k v l = absurd (omega (arith, few-marks s e q w k v))
+    walk zero s e q w k v l = absurd (omega (arith, few_marks s e q w k v))
     walk (suc b) s e q w k v l = one_before n _ b s e q w (by_view n into s k.0 e q w (λ s'. Within s' → Quiet n (length q) b s')
         (λ s' x m k'. at_once n _ b s' (omega arith) m)
         (λ full s' x m k'. absurd (not_aside s e q w k v full))
-        (λ nz d s' next k'. walk b s' next.next q next.waits k' (walk-on s e q w k v s' next nz) (omega (arith, ap length next.marked)))
+        (λ nz d s' next k'. walk b s' next.next q next.waits k' (walk_on s e q w k v s' next nz) (omega (arith, ap length next.marked)))
         (step-within s k))
 
   module _ (fit : GroupsFit n s₀) where
@@ -127,7 +127,7 @@ module _ (n : Numbers) (into : IntoCells n) (s₀ : Store) where
     one_walk s e q w k m = go (group_of n.home (present s₀) e.key in₀)
       where
         in₀ : e.key ∈ present s₀
-        in₀ = k.1 e.key (front-present n s k.0 e q w)
+        in₀ = k.1 e.key (front_present n s k.0 e q w)
 
         go : (G : List ℕ) × IsGroup n.home (present s₀) e.key G → Quiet n (length q) n.D s
         go (G, g) =
@@ -156,7 +156,7 @@ module _ (n : Numbers) (into : IntoCells n) (s₀ : Store) where
         go : (e : Entry) (q : List Entry) → s.waiting ≡ e ∷ q → (M : List Sided) → marks s ≡ M → (after n (bound n s) s).waiting ≡ []
         go e q w [] m = later n (waits * n.D) (bound n s) s (clean waits s (omega arith) k m) (omega arith)
         go e q w (p ∷ M) m =
-            let pos : 0 < n.D = not_0 e.key (k.1 e.key (front-present n s k.0 e q w)) in
+            let pos : 0 < n.D = not_0 e.key (k.1 e.key (front_present n s k.0 e q w)) in
             let quiet : Quiet n (suc (length q)) (suc (n.D - 1)) s = flush n into (n.D - 1) s e q w k.0 (omega (arith, ap length m)) in
             then_clean (suc (length q)) waits (suc (n.D - 1)) (waits * n.D) (bound n s) s k quiet (clean waits) (omega (arith, ap length w)) (omega arith)
 
@@ -176,9 +176,9 @@ seated n s sound none G k m i = go (of_present n s sound k i)
     go (nowhere, e, nz) = absurd (nz (sym e))
 
 -- more keys than cells: no number of steps empties the queue
-pub never-empty : (n : Numbers) → IntoCells n → (s₀ : Store) → SoundContents n s₀ → (G : List ℕ) → NoDup G → ((k : ℕ) → k ∈ G → k ∈ present s₀)
+pub never_empty : (n : Numbers) → IntoCells n → (s₀ : Store) → SoundContents n s₀ → (G : List ℕ) → NoDup G → ((k : ℕ) → k ∈ G → k ∈ present s₀)
     → length (cells_of n.home G) < length G → (b : ℕ) → (after n b s₀).waiting ≢ []
-never-empty n into s₀ sound G once has lt b none =
+never_empty n into s₀ sound G once has lt b none =
     let l : length G ≤ length (map (key_in s) (cells_of n.home G)) = pigeonhole _ once (λ k m. seated n s kept.0 none G k m (kept.1 k (has k m))) in
     omega (arith, length-map (cells_of n.home G) (key_in s))
   where

@@ -30,20 +30,20 @@ sided? p q = go (ℕ_discrete p.0 q.0) (table? p.1 q.1)
     go (yes e) (no n) = no (λ f. n (ap (λ x. x.1) f))
     go (yes e) (yes f) = yes (sided_path e f)
 
-pub same-table : (t u : Table) → same_table t u ≡ true → t ≡ u
-same-table table_0 table_0 e = refl
-same-table table_0 table_1 e = absurd (true≢false (sym e))
-same-table table_1 table_0 e = absurd (true≢false (sym e))
-same-table table_1 table_1 e = refl
+pub same_table_lem : (t u : Table) → same_table t u ≡ true → t ≡ u
+same_table_lem table_0 table_0 e = refl
+same_table_lem table_0 table_1 e = absurd (true≢false (sym e))
+same_table_lem table_1 table_0 e = absurd (true≢false (sym e))
+same_table_lem table_1 table_1 e = refl
 
-own-table : (t : Table) → same_table t t ≡ true
-own-table table_0 = refl
-own-table table_1 = refl
+own_table : (t : Table) → same_table t t ≡ true
+own_table table_0 = refl
+own_table table_1 = refl
 
 pub sided_tells : Tells same_sided
 sided_tells = record {
-  equal = λ p q e. let both = (and-eq-true_iff _ _).0 e in sided_path (eqb-true _ _ both.0) (same-table p.1 q.1 both.1);
-  itself = λ p. rw (eq-eqb p.0 p.0 refl) (own-table p.1);
+  equal = λ p q e. let both = (and-eq-true_iff _ _).0 e in sided_path (eqb-true _ _ both.0) (same_table_lem p.1 q.1 both.1);
+  itself = λ p. rw (eq-eqb p.0 p.0 refl) (own_table p.1);
 }
 
 pub eqb_tells : Tells eqb

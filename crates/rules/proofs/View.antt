@@ -12,16 +12,16 @@ use lib.ListN.{length, length-map, length-append}
 use borrow.Author.Tests.{eqb-true}
 use Rattle.lists.specs.Lists.{◌∈◌}
 use Rattle.lists.proofs.Sets.{map-append, turned, turned_snoc, length-turned, to_turned}
-use Rattle.numbers.proofs.Ranges.{good-nonzero}
+use Rattle.numbers.proofs.Ranges.{good_nonzero}
 use Rattle.rules.specs.Store.{Table, table_0, table_1, other, same_table, meant, Cell, Entry, Pair, Tables, table_of, cell_at, put_cell, Store, Numbers, IntoCells}
 use Rattle.rules.specs.Step.{is_pair, is_marked, pair, headed, taken, moved, step_at, step}
 use Rattle.rules.specs.Search.{in_table, waiting_at, key_at}
 use Rattle.rules.specs.Sound.{present, SoundContents}
 use Rattle.rules.specs.Groups.{Sided, home_cell}
-use Rattle.rules.proofs.Sided.{sided_path, same-table}
+use Rattle.rules.proofs.Sided.{sided_path, same_table_lem}
 use Rattle.rules.proofs.Steps.{by_kind, by_front}
 use Rattle.rules.proofs.Places.{in_present, one_place}
-use Rattle.rules.proofs.Parts.{meant-side, put_cases}
+use Rattle.rules.proofs.Parts.{meant_side, put_cases}
 
 -- an entry's key and the table that it heads for
 abbrev pub heading : Entry → Sided
@@ -67,36 +67,36 @@ or_true : (a b : Bool) → a || b ≡ true → (a ≡ true) ⊎ (b ≡ true)
 or_true true b e = inl e
 or_true false b e = inr e
 
-same-pair : (y : ℕ) (t : Table) (p : Pair) → is_pair y t p ≡ true → marking p ≡ (y, t)
-same-pair y t p e =
+same_pair : (y : ℕ) (t : Table) (p : Pair) → is_pair y t p ≡ true → marking p ≡ (y, t)
+same_pair y t p e =
     let b = (and-eq-true_iff (eqb p.key y) (same_table (meant p.side) t)).0 e in
-    sided_path (eqb-true p.key y b.0) (same-table (meant p.side) t b.1)
+    sided_path (eqb-true p.key y b.0) (same_table_lem (meant p.side) t b.1)
 
 pub found-marked : (y : ℕ) (t : Table) (ps : List Pair) → is_marked y t ps ≡ true → (y, t) ∈ map marking ps
 unfolding is_marked
 found-marked y t [] e = absurd (true≢false (sym e))
 found-marked y t (p ∷ ps) e =
-    ⊎_elim (λ i. here (sym (same-pair y t p i))) (λ i. there (found-marked y t ps i)) (or_true (is_pair y t p) (is_marked y t ps) e)
+    ⊎_elim (λ i. here (sym (same_pair y t p i))) (λ i. there (found-marked y t ps i)) (or_true (is_pair y t p) (is_marked y t ps) e)
 
 -- what the argument needs of a sound store with key y in front
 pub record Seen (home : Table → ℕ → ℕ) (K : Sided → ℕ) (y : ℕ) : Type 0 where
   pub at_home : (c : Sided) → K c ≢ 0 → home_cell home c.1 (K c) ≡ c
   pub one_cell : (c d : Sided) → K c ≢ 0 → K c ≡ K d → c ≡ d
   pub front_not_0 : y ≢ 0
-  pub front-apart : (c : Sided) → K c ≢ y
+  pub front_apart : (c : Sided) → K c ≢ y
 
 module _ (n : Numbers) (s : Store) (sound : SoundContents n s) (e : Entry) (q : List Entry) (w : s.waiting ≡ e ∷ q) where
   not_0 : e.key ≢ 0
-  not_0 = good-nonzero e.key (sound.good-entry e (rw w (here refl)))
+  not_0 = good_nonzero e.key (sound.good_entry e (rw w (here refl)))
 
   at_front : key_at (waiting_at 0) s ≡ e.key
   at_front = rw w
 
-  pub front-present : e.key ∈ present s
-  front-present = rw at_front at (in_present s (waiting_at 0) (rw at_front not_0))
+  pub front_present : e.key ∈ present s
+  front_present = rw at_front at (in_present s (waiting_at 0) (rw at_front not_0))
 
   pub seen : Seen n.home (key_in s) e.key
-  seen = record { at_home = λ c nz. sided_path (sound.at_home c.1 c.0 nz) refl; one_cell = one_cell; front_not_0 = not_0; front-apart = apart }
+  seen = record { at_home = λ c nz. sided_path (sound.at_home c.1 c.0 nz) refl; one_cell = one_cell; front_not_0 = not_0; front_apart = apart }
     where
       one_cell : (c d : Sided) → key_in s c ≢ 0 → key_in s c ≡ key_in s d → c ≡ d
       one_cell c d nz i =
@@ -133,9 +133,9 @@ module _ (n : Numbers) (into : IntoCells n) (s : Store) (sound : SoundContents n
   moves = record {
     next = headed (other t) (cell_at s.tables t i);
     waits = refl;
-    heads = sided_path refl (meant-side (other t));
-    written = put_written s.tables t i (taken e) (omega (arith, sound.table-size t, into t e.key));
-    marked = ap turned (map-append marking s.marked (pair e.key t ∷ []) ∙ rw (meant-side t)) ∙ turned_snoc (map marking s.marked) (heading e);
+    heads = sided_path refl (meant_side (other t));
+    written = put_written s.tables t i (taken e) (omega (arith, sound.table_size t, into t e.key));
+    marked = ap turned (map-append marking s.marked (pair e.key t ∷ []) ∙ rw (meant_side t)) ∙ turned_snoc (map marking s.marked) (heading e);
   }
 
   marks-length : length (marks s) ≡ length s.marked

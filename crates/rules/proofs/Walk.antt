@@ -118,7 +118,7 @@ module _ (h : Table → ℕ → ℕ) (f₀ : Sided) where
       same K K' ch (flip f') (untouched ch n) (subst (λ x. Chain K x ch) back t),
       u,
       λ m. ⊎_elim (λ o. other_differs f.1 (ap (λ x. x.1) o)) (λ i. g p (here refl) (cast (sided_path key (ap (λ x. other x.1) e)) i)) (split m),
-      λ r i m. ⊎_elim (λ o. s.front-apart (aim h r) (sits K i p t ∙ ap (λ x. x.0) o)) (λ j. g r (there i) j) (split m),
+      λ r i m. ⊎_elim (λ o. s.front_apart (aim h r) (sits K i p t ∙ ap (λ x. x.0) o)) (λ j. g r (there i) j) (split m),
     )
       where
         key : p.0 ≡ K (aim h f)
@@ -141,15 +141,15 @@ module _ (h : Table → ℕ → ℕ) (f₀ : Sided) where
         let e : aim h p ≡ aim h f = sym c.1 ∙ ap (λ b. home_cell h b f.0) (sym (other-other p.1) ∙ ap other (sym c.2) ∙ other-other f.1) in
         inr (turn p ch c.0 e c.3 (nodup_tail d) (λ m. nodup_head d (cast e m)) g)
 
-    next-phase : ((c : Sided) → c ∈ cells h M → K c ≢ 0) → Phase K f M → Phase K' f' (f ∷ M)
+    next_phase : ((c : Sided) → c ∈ cells h M → K c ≢ 0) → Phase K f M → Phase K' f' (f ∷ M)
     unfolding Phase Back
-    next-phase occ (inl m) = inl (there m)
-    next-phase occ (inr (inl o)) = go (mem? sided? (aim h f) (cells h M))
+    next_phase occ (inl m) = inl (there m)
+    next_phase occ (inr (inl o)) = go (mem? sided? (aim h f) (cells h M))
       where
         go : Dec (aim h f ∈ cells h M) → Phase K' f' (f ∷ M)
         go (yes m) = inr (inr (out_near occ m o))
         go (no n) = inr (inl (out_far n o))
-    next-phase occ (inr (inr b)) = ⊎_elim inl (λ x. inr (inr x)) (back_on b.0 b.1 b.2 b.3 b.4)
+    next_phase occ (inr (inr b)) = ⊎_elim inl (λ x. inr (inr x)) (back_on b.0 b.1 b.2 b.3 b.4)
 
 -- a walk in the group G of f₀'s key, one of the keys ps
 module _ {h : Table → ℕ → ℕ} {ps : List ℕ} (f₀ : Sided) {G : List ℕ} (g : IsGroup h ps f₀.0 G) where
@@ -183,7 +183,7 @@ module _ {h : Table → ℕ → ℕ} {ps : List ℕ} (f₀ : Sided) {G : List �
             lies c j e = let o = (v.own c j).1 in (o.0, there o.1, to_map (aim h) o.1, sym e ∙ o.2)
 
         nd : NoDup (f.0 ∷ map K W)
-        nd = more (λ i. let t = of_map K W i in s.front-apart t.0 t.2)
+        nd = more (λ i. let t = of_map K W i in s.front_apart t.0 t.2)
             (map_nodup K (λ a b i j e. s.one_cell a b (v.own a (of_each_once sided_tells _ i)).0 e) (each_once_nodup sided_tells _))
 
         sub : (z : ℕ) → z ∈ f.0 ∷ map K W → z ∈ G
@@ -194,7 +194,7 @@ module _ {h : Table → ℕ → ℕ} {ps : List ℕ} (f₀ : Sided) {G : List �
 
     pub unmarked : f ∈ M → ⊥
     unfolding Phase Out Back
-    unmarked m = ⊎_elim (crowd (to_map (aim h) m)) (λ x. ⊎_elim (λ o. s.front-apart (aim h f) (sits h f₀ K m f o.0)) (λ b. b.3 m) x) v.phase
+    unmarked m = ⊎_elim (crowd (to_map (aim h) m)) (λ x. ⊎_elim (λ o. s.front_apart (aim h f) (sits h f₀ K m f o.0)) (λ b. b.3 m) x) v.phase
 
     -- the marked pairs and the front are different pairs of the group
     pub few : length M < 2 * length G
@@ -215,7 +215,7 @@ module _ {h : Table → ℕ → ℕ} {ps : List ℕ} (f₀ : Sided) {G : List �
       back = λ p m. ⊎_elim (λ e. inr (here (ap (λ x. aim h (flip x)) e ∙ came_from))) (λ i. ⊎_map (λ e. e) there (v.back p i)) (split m);
       own = own;
       once = more unmarked v.once;
-      phase = next-phase h f₀ K K' f M s nz w (λ c m. (v.own c m).0) v.phase;
+      phase = next_phase h f₀ K K' f M s nz w (λ c m. (v.own c m).0) v.phase;
     }
       where
         new : K (aim h f) ∈ G

@@ -10,7 +10,7 @@ use lib.Dec.{eqb}
 use lib.ListN.{length}
 use Rattle.lists.specs.Lists.{◌∈◌, NoDup}
 use Rattle.lists.proofs.Sets.{map-append}
-use Rattle.lists.proofs.Weigh.{weigh, weigh-append, weigh-set, weigh_mem, weigh-some, weigh-map, is_one, times, to_times, of_times, nodup_times, times_nodup}
+use Rattle.lists.proofs.Weigh.{weigh, weigh-append, weigh-set, weigh_mem, weigh_some, weigh-map, is_one, times, to_times, of_times, nodup_times, times_nodup}
 use Rattle.rules.specs.Store.{Table, table_0, table_1, Cell, free_cell, Entry, Tables, table_of, cell_at, put_cell, Store}
 use Rattle.rules.specs.Step.{taken}
 use Rattle.rules.specs.Sound.{occupied, present}
@@ -29,8 +29,8 @@ contents_have_the_present_keys s = map-append key_of (occupied s.tables.table0) 
 abbrev pub only : (Cell → ℕ) → Cell → ℕ
 only w c = cond (eqb c.key 0) 0 (w c)
 
-pub only-free : (w : Cell → ℕ) (c : Cell) → c.key ≡ 0 → only w c ≡ 0
-only-free w c e = simp (eq-eqb c.key 0 e)
+pub only_free : (w : Cell → ℕ) (c : Cell) → c.key ≡ 0 → only w c ≡ 0
+only_free w c e = simp (eq-eqb c.key 0 e)
 
 pub only-held : (w : Cell → ℕ) (c : Cell) → c.key ≢ 0 → only w c ≡ w c
 only-held w c e = simp (ne_eqb c.key 0 e)
@@ -62,10 +62,10 @@ weigh-contents w s =
     omega (arith, a, b, weigh-occupied w s.tables.table0, weigh-occupied w s.tables.table1, weigh-map taken w s.waiting)
 
 -- a cell replaced by another
-pub weight-put : (w : Cell → ℕ) (ts : Tables) (t : Table) (i : ℕ) (c : Cell) → i < length (table_of t ts)
+pub weight_put : (w : Cell → ℕ) (ts : Tables) (t : Table) (i : ℕ) (c : Cell) → i < length (table_of t ts)
     → weight_in w (put_cell ts t i c) + only w (cell_at ts t i) ≡ weight_in w ts + only w c
-weight-put w ts table_0 i c h = let e = weigh-set (only w) ts.table0 i c free_cell h in omega arith
-weight-put w ts table_1 i c h = let e = weigh-set (only w) ts.table1 i c free_cell h in omega arith
+weight_put w ts table_0 i c h = let e = weigh-set (only w) ts.table0 i c free_cell h in omega arith
+weight_put w ts table_1 i c h = let e = weigh-set (only w) ts.table1 i c free_cell h in omega arith
 
 -- how often a key is present
 pub times-present : (k : ℕ) (s : Store) → times k (present s) ≡ weight (λ c. is_one k c.key) s
@@ -77,11 +77,11 @@ to_present k s h = of_times k (present s) (omega (arith, times-present k s))
 pub of_present_weight : (k : ℕ) (s : Store) → k ∈ present s → 1 ≤ weight (λ c. is_one k c.key) s
 of_present_weight k s m = omega (arith, to_times k m, times-present k s)
 
-pub once-weight : (s : Store) → ((k : ℕ) → weight (λ c. is_one k c.key) s ≤ 1) → NoDup (present s)
-once-weight s f = times_nodup (present s) (λ k. omega (arith, f k, times-present k s))
+pub once_weight : (s : Store) → ((k : ℕ) → weight (λ c. is_one k c.key) s ≤ 1) → NoDup (present s)
+once_weight s f = times_nodup (present s) (λ k. omega (arith, f k, times-present k s))
 
-pub weight-once : (s : Store) → NoDup (present s) → (k : ℕ) → weight (λ c. is_one k c.key) s ≤ 1
-weight-once s d k = omega (arith, nodup_times d k, times-present k s)
+pub weight_once : (s : Store) → NoDup (present s) → (k : ℕ) → weight (λ c. is_one k c.key) s ≤ 1
+weight_once s d k = omega (arith, nodup_times d k, times-present k s)
 
 -- 1 for a key with this value and 0 for anything else
 abbrev pub is_cell : Cell → Cell → ℕ
@@ -95,15 +95,15 @@ of_is_cell c d h = go (eqb d.key c.key) (eqb d.value c.value) refl refl h
     go true false e f l = absurd (omega arith)
     go false b e f l = absurd (omega arith)
 
-pub is_cell-same : (c : Cell) → is_cell c c ≡ 1
-is_cell-same c = simp (eq-eqb c.key c.key refl, eq-eqb c.value c.value refl)
+pub is_cell_same : (c : Cell) → is_cell c c ≡ 1
+is_cell_same c = simp (eq-eqb c.key c.key refl, eq-eqb c.value c.value refl)
 
 pub to_contents : (c : Cell) (s : Store) → 1 ≤ weight (is_cell c) s → c ∈ contents s
-to_contents c s h = let t = weigh-some (is_cell c) (contents s) (omega (arith, weigh-contents (is_cell c) s)) in
+to_contents c s h = let t = weigh_some (is_cell c) (contents s) (omega (arith, weigh-contents (is_cell c) s)) in
     subst (λ d. d ∈ contents s) (of_is_cell c t.0 t.2) t.1
 
 pub of_contents_weight : (c : Cell) (s : Store) → c ∈ contents s → 1 ≤ weight (is_cell c) s
-of_contents_weight c s m = omega (arith, weigh_mem (is_cell c) m, is_cell-same c, weigh-contents (is_cell c) s)
+of_contents_weight c s m = omega (arith, weigh_mem (is_cell c) m, is_cell_same c, weigh-contents (is_cell c) s)
 
 -- what is held weighs at least its own weight
 pub held-weight : (w : Cell → ℕ) (c : Cell) (s : Store) → c ∈ contents s → w c ≤ weight w s

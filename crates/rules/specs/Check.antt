@@ -44,9 +44,9 @@ is_sound n s =
 
 -- tables, queue and detector have their sizes
 pub record Sized (n : Numbers) (s : Store) : Type 0 where
-  pub table-size : (t : Table) → length (table_of t s.tables) ≡ n.r
-  pub queue-fits : length s.waiting ≤ n.Q
-  pub detector-fits : length s.marked ≤ n.D
+  pub table_size : (t : Table) → length (table_of t s.tables) ≡ n.r
+  pub queue_fits : length s.waiting ≤ n.Q
+  pub detector_fits : length s.marked ≤ n.D
 
 -- the test passes exactly for sound contents
 abbrev pub CheckIsExact : Type 0

@@ -28,15 +28,15 @@ present s = cell_keys s.tables.table0 ++ (cell_keys s.tables.table1 ++ entry_key
 -- "every occupied cell holds a good key at its home, every free cell has value 0, queue and detector entries have good keys and sides 0 or 1,
 -- the detector's pairs differ, .. and no key occurs twice in the tables and the queue together", in tables, queue and detector of their sizes
 pub record SoundContents (n : Numbers) (s : Store) : Type 0 where
-  pub table-size : (t : Table) → length (table_of t s.tables) ≡ n.r
-  pub queue-fits : length s.waiting ≤ n.Q
-  pub detector-fits : length s.marked ≤ n.D
-  pub good-cell : (t : Table) (i : ℕ) → (cell_at s.tables t i).key ≢ 0 → IsGood (cell_at s.tables t i).key
+  pub table_size : (t : Table) → length (table_of t s.tables) ≡ n.r
+  pub queue_fits : length s.waiting ≤ n.Q
+  pub detector_fits : length s.marked ≤ n.D
+  pub good_cell : (t : Table) (i : ℕ) → (cell_at s.tables t i).key ≢ 0 → IsGood (cell_at s.tables t i).key
   pub at_home : (t : Table) (i : ℕ) → (cell_at s.tables t i).key ≢ 0 → n.home t (cell_at s.tables t i).key ≡ i
-  pub free-cell : (t : Table) (i : ℕ) → (cell_at s.tables t i).key ≡ 0 → (cell_at s.tables t i).value ≡ 0
-  pub good-entry : (e : Entry) → e ∈ s.waiting → IsGood e.key
-  pub entry-side : (e : Entry) → e ∈ s.waiting → IsSide e.side
-  pub good-pair : (p : Pair) → p ∈ s.marked → IsGood p.key
-  pub pair-side : (p : Pair) → p ∈ s.marked → IsSide p.side
-  pub pairs-differ : NoDup s.marked
+  pub free_value : (t : Table) (i : ℕ) → (cell_at s.tables t i).key ≡ 0 → (cell_at s.tables t i).value ≡ 0
+  pub good_entry : (e : Entry) → e ∈ s.waiting → IsGood e.key
+  pub entry_side : (e : Entry) → e ∈ s.waiting → IsSide e.side
+  pub good_pair : (p : Pair) → p ∈ s.marked → IsGood p.key
+  pub pair_side : (p : Pair) → p ∈ s.marked → IsSide p.side
+  pub pairs_differ : NoDup s.marked
   pub no_key_twice : NoDup (present s)

@@ -8,7 +8,7 @@ use lib.ListN.{length}
 use Rattle.rules.specs.Store.{Store}
 use Rattle.rules.specs.Run.{run}
 use Rattle.layout.specs.Forms.{cell_form, entry_form, pair_form, write_many, packed}
-use Rattle.layout.proofs.Forms.{cell_lawful, length-read_many, write-all}
+use Rattle.layout.proofs.Forms.{cell_lawful, length-read_many, write_all}
 use Rattle.steps.specs.declared.Ended.{Ended}
 use Rattle.kinds.specs.Shape.{Ready}
 use Rattle.steps.specs.Shape.{StepsWith, Holds, Runs}
@@ -24,12 +24,12 @@ pub as_one : {t0 t1 q d u0 u1 p e : List ℕ} {a b : Told} → t0 ≡ u0 → t1 
 as_one e0 e1 e2 e3 e4 = λ i. outcome (lent (e0 i) (e1 i) (e2 i) (e3 i)) (e4 i)
 
 -- words that hold a store are its words
-pub held-words : (f : Functions) (c : Rooms) (nq nd : ℕ) (s : Store) (t0 t1 q d : List ℕ) (ql dl : ℕ) (a b : Told) → length t0 ≡ 2 * f.r → length t1 ≡ 2 * f.r
+pub held_words : (f : Functions) (c : Rooms) (nq nd : ℕ) (s : Store) (t0 t1 q d : List ℕ) (ql dl : ℕ) (a b : Told) → length t0 ≡ 2 * f.r → length t1 ≡ 2 * f.r
     → nq ≡ 3 * c.queue_room → nd ≡ 2 * c.detector_room → Holds f.r nq nd s t0 t1 q d ql dl → a ≡ b → outcome (lent t0 t1 q d) a ≡ outcome (words_of c s) b
 unfolding words_in
-held-words f c nq nd s t0 t1 q d ql dl a b l0 l1 eq ed h e = as_one
-    (sym (write-all cell_form cell_lawful f.r t0 l0) ∙ ap (write_many cell_form) h.first)
-    (sym (write-all cell_form cell_lawful f.r t1 l1) ∙ ap (write_many cell_form) h.second)
+held_words f c nq nd s t0 t1 q d ql dl a b l0 l1 eq ed h e = as_one
+    (sym (write_all cell_form cell_lawful f.r t0 l0) ∙ ap (write_many cell_form) h.first)
+    (sym (write_all cell_form cell_lawful f.r t1 l1) ∙ ap (write_many cell_form) h.second)
     (h.queue ∙ ap (λ k. packed entry_form k s.waiting) eq)
     (h.detector ∙ ap (λ k. packed pair_form k s.marked) ed)
     e
@@ -50,8 +50,8 @@ module _ (f : Functions) (c : Rooms) (ql : ℕ) (t0 t1 q d q' d' : List ℕ) (s 
         first = fit.first;
         second = fit.second;
         rooms = record {
-          queue-small = w.queue-small;
-          detector-small = w.detector-small;
+          queue_small = w.queue_small;
+          detector_small = w.detector_small;
           queue = lq ∙ w.queue;
           detector = ld ∙ w.detector;
           queue_in = few;
@@ -59,8 +59,8 @@ module _ (f : Functions) (c : Rooms) (ql : ℕ) (t0 t1 q d q' d' : List ℕ) (s 
         };
       }
 
-  pub held-ready : Ready ql c.detector_len q' d'
-  held-ready = let w = fit.rooms in holds_ready h (omega arith) (omega arith) (omega arith) (omega arith)
+  pub held_ready : Ready ql c.detector_len q' d'
+  held_ready = let w = fit.rooms in holds_ready h (omega arith) (omega arith) (omega arith) (omega arith)
 
 module _ (f : Functions) (c : Rooms) (t0 t1 q d q' d' : List ℕ) (fit : FitIn f c (lent t0 t1 q d)) (t : Tidied c.queue_len c.detector_len q d q' d') where
   pub tidied_holds : Holds f.r (length q) (length d) (store_of f c (lent t0 t1 q d)) t0 t1 q' d' c.queue_len c.detector_len
@@ -76,19 +76,19 @@ module _ (f : Functions) (c : Rooms) (t0 t1 q d q' d' : List ℕ) (fit : FitIn f
   pub tidied_fit : FitIn f c (lent t0 t1 q' d')
   tidied_fit = held_fit f c c.queue_len t0 t1 q d q' d' (store_of f c (lent t0 t1 q d)) fit fit.rooms.queue_in tidied_holds
 
-  pub tidied-ready : Ready c.queue_len c.detector_len q' d'
-  tidied-ready = held-ready f c c.queue_len t0 t1 q d q' d' (store_of f c (lent t0 t1 q d)) fit fit.rooms.queue_in tidied_holds
+  pub tidied_ready : Ready c.queue_len c.detector_len q' d'
+  tidied_ready = held_ready f c c.queue_len t0 t1 q d q' d' (store_of f c (lent t0 t1 q d)) fit fit.rooms.queue_in tidied_holds
 
-  pub tidied-store : store_of f c (lent t0 t1 q' d') ≡ store_of f c (lent t0 t1 q d)
-  tidied-store = holds_store tidied_holds
+  pub tidied_store : store_of f c (lent t0 t1 q' d') ≡ store_of f c (lent t0 t1 q d)
+  tidied_store = holds_store tidied_holds
 
 -- a run's words are its outcome
 module _ (f : Functions) (c : Rooms) (m : Lent) (fit : FitIn f c m) (budget : ℕ) where
   pub runs_with : StepsWith (numbers_of f c) f c.detector_room
-  runs_with = record { detector-room = refl; homes = refl }
+  runs_with = record { detector_room = refl; homes = refl }
 
   pub ran_out : (t0 t1 q d : List ℕ) (e : Ended) {a : Told} → Runs f.r (length m.queue) (length m.detector) (run (numbers_of f c) budget (store_of f c m)) t0 t1 q d e
       → length t0 ≡ length m.table0 → length t1 ≡ length m.table1 → a ≡ tells e.queue_len e.detector_len 0 0 e.steps e.moves
       → outcome (lent t0 t1 q d) a ≡ ran_outcome c (run (numbers_of f c) budget (store_of f c m))
-  ran_out t0 t1 q d e r l0 l1 is = ap (outcome (lent t0 t1 q d)) is ∙ held-words f c _ _ _ t0 t1 q d _ _ _ _ (l0 ∙ fit.first) (l1 ∙ fit.second) fit.rooms.queue fit.rooms.detector r.words
+  ran_out t0 t1 q d e r l0 l1 is = ap (outcome (lent t0 t1 q d)) is ∙ held_words f c _ _ _ t0 t1 q d _ _ _ _ (l0 ∙ fit.first) (l1 ∙ fit.second) fit.rooms.queue fit.rooms.detector r.words
       (λ i. tells (r.words.queue_len i) (r.words.detector_len i) 0 0 (r.steps i) (r.moves i))

@@ -9,12 +9,12 @@ use Rattle.rules.specs.Store.{meant, Entry, Store, store, Numbers}
 use Rattle.rules.specs.Step.{step}
 use Rattle.rules.specs.Run.{Ran, ran, as_move, counted, run}
 use Rattle.rules.proofs.Steps.{by_kind, by_front}
-use Rattle.rules.proofs.Runs.{join_runs, as_move_one, run-idle, run_more}
+use Rattle.rules.proofs.Runs.{join_runs, as_move_one, run_idle, run_more}
 use Rattle.layout.specs.Memory.{entries_in, pairs_in, homes_of, store_in}
 use Rattle.numbers.specs.declared.Functions.{Functions}
 use Rattle.layout.specs.Forms.{entry_form, pair_form, read_many, packed}
 use Rattle.layout.proofs.Forms.{entry_lawful, pair_lawful, length-read_many}
-use Rattle.layout.proofs.Packed.{length-packed, read-packed}
+use Rattle.layout.proofs.Packed.{length-packed, read_packed}
 use Rattle.kinds.specs.declared.Turn.{Turn}
 use Rattle.kinds.specs.Shape.{Ready}
 use Rattle.steps.specs.Shape.{TablesReady, StepsWith, Holds, Follows, Runs}
@@ -39,10 +39,10 @@ module _ (n : Numbers) (s : Store) where
 -- words that hold a store: it is the one that is read from them, and they are ready
 module _ {r nq nd ql dl : ℕ} {s : Store} {t0 t1 q d : List ℕ} (h : Holds r nq nd s t0 t1 q d ql dl) where
   waits : entries_in ql q ≡ s.waiting
-  waits = (λ i. read_many entry_form (h.queue_len i) (h.queue i)) ∙ read-packed entry_form entry_lawful nq s.waiting
+  waits = (λ i. read_many entry_form (h.queue_len i) (h.queue i)) ∙ read_packed entry_form entry_lawful nq s.waiting
 
   marks : pairs_in dl d ≡ s.marked
-  marks = (λ i. read_many pair_form (h.detector_len i) (h.detector i)) ∙ read-packed pair_form pair_lawful nd s.marked
+  marks = (λ i. read_many pair_form (h.detector_len i) (h.detector i)) ∙ read_packed pair_form pair_lawful nd s.marked
 
   pub holds_store : store_in r ql dl t0 t1 q d ≡ s
   holds_store = λ i. store (record { table0 = h.first i; table1 = h.second i }) (waits i) (marks i)
@@ -59,9 +59,9 @@ module _ {r nq nd ql dl : ℕ} {s : Store} {t0 t1 q d : List ℕ} (h : Holds r n
       let ld = holds_detector di in
       record {
         queue_in = omega arith;
-        queue-small = omega arith;
+        queue_small = omega arith;
         detector_in = omega arith;
-        detector-small = omega arith;
+        detector_small = omega arith;
         queue = h.queue ∙ (λ i. packed entry_form (sym lq i) (sym waits i));
         detector = h.detector ∙ (λ i. packed pair_form (sym ld i) (sym marks i));
       }
@@ -114,7 +114,7 @@ module _ (n : Numbers) (b : ℕ) (s₀ : Store) where
   spent s i m h = let k : b - i ≡ 0 = omega arith in all_done s i m (ap (λ j. run n j s) k)
 
   pub idle : (s : Store) (i m : ℕ) → length s.waiting ≡ 0 → Apart s i m → run n b s₀ ≡ ran s i m
-  idle s i m h = all_done s i m (run-idle n (b - i) s (empty s.waiting h))
+  idle s i m h = all_done s i m (run_idle n (b - i) s (empty s.waiting h))
     where
       empty : (w : List Entry) → length w ≡ 0 → w ≡ []
       empty [] h = refl
@@ -127,7 +127,7 @@ module _ (f : Functions) (room budget ql₀ dl₀ : ℕ) (t0₀ t1₀ q₀ d₀ 
     pub within : s ≤ budget
     pub tables : TablesReady f.r t0 t1
     pub ready : Ready ql dl q d
-    pub room-is : length d ≡ 2 * room
+    pub room_is : length d ≡ 2 * room
     pub first : length t0 ≡ length t0₀
     pub second : length t1 ≡ length t1₀
     pub queue : length q ≡ length q₀
@@ -146,7 +146,7 @@ module _ {f : Functions} {room budget ql₀ dl₀ : ℕ} {t0₀ t1₀ q₀ d₀ 
     within = omega arith;
     tables = ts;
     ready = w;
-    room-is = e;
+    room_is = e;
     first = refl;
     second = refl;
     queue = refl;
@@ -168,7 +168,7 @@ module _ {f : Functions} {room budget ql₀ dl₀ : ℕ} {t0₀ t1₀ q₀ d₀ 
         → Going f room budget ql₀ dl₀ t0₀ t1₀ q₀ d₀ t0' t1' q' d' a.queue_len a.detector_len (s + 1) (m + k)
     goes {t0'} {t1'} {q'} {d'} {k} a more some follows l0 l1 move =
         let n₀ : Numbers = record { r = f.r; Q = 0; D = room; L = 0; home = homes_of f } in
-        let h = (follows n₀ (record { detector-room = refl; homes = refl })).words in
+        let h = (follows n₀ (record { detector_room = refl; homes = refl })).words in
         let lq : length (entries_in ql q) ≡ ql = length-read_many entry_form ql q in
         let ld : length (pairs_in dl d) ≡ dl = length-read_many pair_form dl d in
         let in_queue : 3 * a.queue_len ≤ length q = omega (arith, step_waits n₀ st) in
@@ -178,8 +178,8 @@ module _ {f : Functions} {room budget ql₀ dl₀ : ℕ} {t0₀ t1₀ q₀ d₀ 
           few = omega (arith, as_move_one a.kind);
           within = omega arith;
           tables = record { some = g.tables.some; small = g.tables.small; first = l0 ∙ g.tables.first; second = l1 ∙ g.tables.second };
-          ready = holds_ready h in_queue g.ready.queue-small in_detector g.ready.detector-small;
-          room-is = wd ∙ g.room-is;
+          ready = holds_ready h in_queue g.ready.queue_small in_detector g.ready.detector_small;
+          room_is = wd ∙ g.room_is;
           first = l0 ∙ g.first;
           second = l1 ∙ g.second;
           queue = holds_queue h in_queue ∙ g.queue;

@@ -35,7 +35,7 @@ module _ (n : Numbers) (f : Functions) (room ql dl : ℕ) (t0 t1 q d : List ℕ)
   as_table t b side =
       ap (step_from n s) (front ql q some)
       ∙ ap (λ u. step_at n.D u (n.home u (get_or q 0 0)) (entry (get_or q 0 0) (get_or q 1 0) (get_or q 2 0)) rest s) side
-      ∙ ap (λ D. step_at D t (n.home t (get_or q 0 0)) (entry (get_or q 0 0) (get_or q 1 0) b) rest s) w.detector-room
+      ∙ ap (λ D. step_at D t (n.home t (get_or q 0 0)) (entry (get_or q 0 0) (get_or q 1 0) b) rest s) w.detector_room
       ∙ ap (λ h. step_at room t (h t (get_or q 0 0)) (entry (get_or q 0 0) (get_or q 1 0) b) rest s) w.homes
 
   module _ (nq nd : ℕ) (q' d' : List ℕ) (a : Turn) where
@@ -54,14 +54,14 @@ module _ (n : Numbers) (f : Functions) (room ql dl : ℕ) (t0 t1 q d : List ℕ)
       kind = ap (λ (y : Turn). y.kind) l.answer;
     }
 
-    pub first-table : (t' : List ℕ) → get_or q 2 0 ≡ 0
+    pub first_table : (t' : List ℕ) → get_or q 2 0 ≡ 0
         → After f.r (step_at room table_0 (home0 f (get_or q 0 0)) (entry (get_or q 0 0) (get_or q 1 0) 0) rest s) table_0 (cells_in f.r t1) nq nd t' q' d' a
         → Follows f.r nq nd (step n s) t' t1 q' d' a
-    first-table t' side l = subst (λ x. Follows f.r nq nd x t' t1 q' d' a) (sym (as_table table_0 0 (simp (eq-eqb (get_or q 2 0) 0 side))))
+    first_table t' side l = subst (λ x. Follows f.r nq nd x t' t1 q' d' a) (sym (as_table table_0 0 (simp (eq-eqb (get_or q 2 0) 0 side))))
         (lengths _ table_0 (cells_in f.r t1) t' t' t1 l (ap (λ (ts : Tables). ts.table0) l.tables) (ap (λ (ts : Tables). ts.table1) l.tables))
 
-    pub second-table : (t' : List ℕ) → get_or q 2 0 ≢ 0
+    pub second_table : (t' : List ℕ) → get_or q 2 0 ≢ 0
         → After f.r (step_at room table_1 (home1 f (get_or q 0 0)) (entry (get_or q 0 0) (get_or q 1 0) 1) rest s) table_1 (cells_in f.r t0) nq nd t' q' d' a
         → Follows f.r nq nd (step n s) t0 t' q' d' a
-    second-table t' side l = subst (λ x. Follows f.r nq nd x t0 t' q' d' a) (sym (as_table table_1 1 (simp (ne_eqb (get_or q 2 0) 0 side))))
+    second_table t' side l = subst (λ x. Follows f.r nq nd x t0 t' q' d' a) (sym (as_table table_1 1 (simp (ne_eqb (get_or q 2 0) 0 side))))
         (lengths _ table_1 (cells_in f.r t0) t' t0 t' l (ap (λ (ts : Tables). ts.table0) l.tables) (ap (λ (ts : Tables). ts.table1) l.tables))

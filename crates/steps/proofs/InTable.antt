@@ -16,7 +16,7 @@ use Rattle.rules.proofs.Steps.{by_kind}
 use Rattle.layout.specs.Memory.{cells_in, entries_in, pairs_in}
 use Rattle.layout.specs.Forms.{cell_form, entry_form, pair_form, packed}
 use Rattle.layout.proofs.Forms.{cell_lawful, entry_lawful, length-read_many, read_at, read_set}
-use Rattle.layout.proofs.Ready.{rest-count}
+use Rattle.layout.proofs.Ready.{rest_count}
 use Rattle.kinds.specs.declared.Turn.{Turn}
 use Rattle.kinds.specs.Shape.{entry, pair, turn, Ready, Landed, Aside, Swapped}
 use Rattle.steps.specs.Shape.{with_table, tables_with, After}
@@ -30,21 +30,21 @@ put_in : (t : Table) (cs o : List Cell) (i : ℕ) (c : Cell) → with_table t (s
 put_in table_0 cs o i c = refl
 put_in table_1 cs o i c = refl
 
-pub cell-read : (r i : ℕ) (t : List ℕ) → i < r → get_or (cells_in r t) i free_cell ≡ record { key = get_or t (2 * i) 0; value = get_or t (2 * i + 1) 0 }
-cell-read r i t h = read_at cell_form r i t free_cell h ∙ simp (get_or-drop, add-zero)
+pub cell_read : (r i : ℕ) (t : List ℕ) → i < r → get_or (cells_in r t) i free_cell ≡ record { key = get_or t (2 * i) 0; value = get_or t (2 * i + 1) 0 }
+cell_read r i t h = read_at cell_form r i t free_cell h ∙ simp (get_or-drop, add-zero)
 
 -- side words 0 and 1
-side-meant : (b : ℕ) → b ≤ 1 → side_of (meant b) ≡ b
-side-meant zero l = refl
-side-meant (suc zero) l = refl
-side-meant (suc (suc b)) l = absurd (omega arith)
+side_meant : (b : ℕ) → b ≤ 1 → side_of (meant b) ≡ b
+side_meant zero l = refl
+side_meant (suc zero) l = refl
+side_meant (suc (suc b)) l = absurd (omega arith)
 
-side-other : (b : ℕ) → b ≤ 1 → side_of (other (meant b)) ≡ 1 - b
-side-other zero l = refl
-side-other (suc zero) l = refl
-side-other (suc (suc b)) l = absurd (omega arith)
+side_other : (b : ℕ) → b ≤ 1 → side_of (other (meant b)) ≡ 1 - b
+side_other zero l = refl
+side_other (suc zero) l = refl
+side_other (suc (suc b)) l = absurd (omega arith)
 
-module _ (r room i b ql dl : ℕ) (t q d : List ℕ) (o : List Cell) (size : length t ≡ 2 * r) (IsInside : i < r) (ready : Ready ql dl q d) (some : 0 < ql) where
+module _ (r room i b ql dl : ℕ) (t q d : List ℕ) (o : List Cell) (size : length t ≡ 2 * r) (inside : i < r) (ready : Ready ql dl q d) (some : 0 < ql) where
   abbrev e : Entry
   e = entry (get_or q 0 0) (get_or q 1 0) b
 
@@ -58,16 +58,16 @@ module _ (r room i b ql dl : ℕ) (t q d : List ℕ) (o : List Cell) (size : len
   stepped = step_at room (meant b) i e rest s
 
   here : cell_at s.tables (meant b) i ≡ record { key = get_or t (2 * i) 0; value = get_or t (2 * i + 1) 0 }
-  here = cell_in (meant b) (cells_in r t) o i ∙ cell-read r i t IsInside
+  here = cell_in (meant b) (cells_in r t) o i ∙ cell_read r i t inside
 
   key_here : (cell_at s.tables (meant b) i).key ≡ get_or t (2 * i) 0
   key_here = ap (λ (c : Cell). c.key) here
 
   taken_in : (t' : List ℕ) → t' ≡ sets t (2 * i) (get_or q 0 0 ∷ get_or q 1 0 ∷ []) → with_table (meant b) (cells_in r t') o ≡ put_cell s.tables (meant b) i (taken e)
-  taken_in t' w = ap (λ cs. with_table (meant b) cs o) (ap (cells_in r) w ∙ read_set cell_form cell_lawful r i t (taken e) IsInside (omega arith)) ∙ put_in (meant b) (cells_in r t) o i (taken e)
+  taken_in t' w = ap (λ cs. with_table (meant b) cs o) (ap (cells_in r) w ∙ read_set cell_form cell_lawful r i t (taken e) inside (omega arith)) ∙ put_in (meant b) (cells_in r t) o i (taken e)
 
   waits : length rest ≡ ql - 1
-  waits = rest-count entry_form entry_lawful ql q ready.queue ready.queue_in some
+  waits = rest_count entry_form entry_lawful ql q ready.queue ready.queue_in some
 
   marks : length s.marked ≡ dl
   marks = length-read_many pair_form dl d
@@ -82,13 +82,13 @@ module _ (r room i b ql dl : ℕ) (t q d : List ℕ) (o : List Cell) (size : len
         (λ nz m. absurd (nz (key_here ∙ free)))
         (λ nz m l. absurd (nz (key_here ∙ free)))
 
-    pub sets-aside : get_or t (2 * i) 0 ≢ 0 → b ≤ 1 → (is_marked (get_or q 0 0) (meant b) (pairs_in dl d) || leb room dl) ≡ true
+    pub sets_aside : get_or t (2 * i) 0 ≢ 0 → b ≤ 1 → (is_marked (get_or q 0 0) (meant b) (pairs_in dl d) || leb room dl) ≡ true
         → Aside (get_or q 0 0) (get_or q 1 0) b ql q d q' d' a → t' ≡ t → Leaves stepped
-    sets-aside held side stop w same = by_kind Leaves room (meant b) i e rest s
+    sets_aside held side stop w same = by_kind Leaves room (meant b) i e rest s
         (λ z. absurd (held (sym key_here ∙ z)))
         (λ nz m. record {
           tables = ap (λ us. with_table (meant b) (cells_in r us) o) same;
-          queue = w.queue ∙ ap (λ k. packed entry_form (length q) (rest ++ entry (get_or q 0 0) (get_or q 1 0) k ∷ [])) (sym (side-meant b side));
+          queue = w.queue ∙ ap (λ k. packed entry_form (length q) (rest ++ entry (get_or q 0 0) (get_or q 1 0) k ∷ [])) (sym (side_meant b side));
           detector = w.detector;
           answer = w.answer ∙ ap (λ k. turn 2 k 0) (omega (arith, waits, length-append rest (entry (get_or q 0 0) (get_or q 1 0) (side_of (meant b)) ∷ [])));
         })
@@ -106,7 +106,7 @@ module _ (r room i b ql dl : ℕ) (t q d : List ℕ) (o : List Cell) (size : len
         (λ nz m l. record {
           tables = taken_in t' w.table;
           queue = w.queue ∙ ap (λ (x : Entry). packed entry_form (length q) (x ∷ rest)) pushed;
-          detector = w.detector ∙ ap (λ k. packed pair_form (length d) (pairs_in dl d ++ pair (get_or q 0 0) k ∷ [])) (sym (side-meant b side));
+          detector = w.detector ∙ ap (λ k. packed pair_form (length d) (pairs_in dl d ++ pair (get_or q 0 0) k ∷ [])) (sym (side_meant b side));
           answer = w.answer ∙ ap (λ k. turn 3 k (dl + 1)) (omega (arith, waits)) ∙ ap (turn 3 (suc (length rest))) (omega (arith, marks, length-append (pairs_in dl d) (pair (get_or q 0 0) (side_of (meant b)) ∷ [])));
         })
       where
@@ -122,7 +122,7 @@ module _ (r room i b ql dl : ℕ) (t q d : List ℕ) (o : List Cell) (size : len
         full l = (go (is_marked (get_or q 0 0) (meant b) (pairs_in dl d)) (leb room dl) go_on).1 (borrow.Author.Tests.le-leb room dl (omega (arith, marks)))
 
         pushed : entry (get_or t (2 * i) 0) (get_or t (2 * i + 1) 0) (1 - b) ≡ record { key = (cell_at s.tables (meant b) i).key; value = (cell_at s.tables (meant b) i).value; side = side_of (other (meant b)) }
-        pushed = ap (λ k. entry (get_or t (2 * i) 0) (get_or t (2 * i + 1) 0) k) (sym (side-other b side)) ∙ ap (λ (c : Cell). entry c.key c.value (side_of (other (meant b)))) (sym here)
+        pushed = ap (λ k. entry (get_or t (2 * i) 0) (get_or t (2 * i + 1) 0) k) (sym (side_other b side)) ∙ ap (λ (c : Cell). entry c.key c.value (side_of (other (meant b)))) (sym here)
 
 -- a step that goes on has room for one mark more
 pub has_room : (room y b dl : ℕ) (d : List ℕ) → length d ≡ 2 * room → (is_marked y (meant b) (pairs_in dl d) || leb room dl) ≡ false → 2 * dl + 1 < length d

@@ -35,7 +35,7 @@ pub record TablesReady (r : ℕ) (t0 t1 : List ℕ) : Type 0 where
 
 -- numbers with these functions and this detector room
 pub record StepsWith (n : Numbers) (f : Functions) (room : ℕ) : Type 0 where
-  pub detector-room : n.D ≡ room
+  pub detector_room : n.D ≡ room
   pub homes : n.home ≡ homes_of f
 
 -- the words hold this store, with lengths ql and dl

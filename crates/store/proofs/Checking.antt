@@ -12,7 +12,7 @@ use lib.Seq.{get_or-drop}
 use Rattle.rules.specs.Store.{table_0, table_1, Numbers}
 use Rattle.rules.specs.Calls.{answer}
 use Rattle.rules.specs.Check.{is_sound, Sized}
-use Rattle.rules.proofs.Check.{check_is_exact as rules-check-is-exact}
+use Rattle.rules.proofs.Check.{check_is_exact as rules_check_is_exact}
 use Rattle.layout.specs.Forms.{cell_form, entry_form, pair_form}
 use Rattle.layout.proofs.Forms.{length-read_many}
 use Rattle.numbers.specs.declared.Functions.{Functions}
@@ -27,7 +27,7 @@ use Rattle.store.specs.Calls.{checking, checked}
 use Rattle.faults.specs.Faults.{fault_of}
 use Rattle.faults.proofs.Accepted.{both, accepted-tests}
 use Rattle.store.specs.Sound.{SoundIn, CheckKeepsSound, CheckIsExact}
-use Rattle.store.proofs.Faults.{no_fault, fault_in, goes_on_lem, keeps-all}
+use Rattle.store.proofs.Faults.{no_fault, fault_in, goes_on_lem, keeps_all}
 use Rattle.store.proofs.Demand1.{check_changes_nothing}
 use Rattle.store.proofs.Simulation.{no_faults, contents}
 
@@ -76,9 +76,9 @@ past k l h i le = let e : k + (i - k) ≡ i = omega arith in ap (λ j. get_or l 
 module _ (c : Control) (m : Lent) where
   fitting : fault_in c m ≡ 0 → Sized (numbers_of c) (store_of c m)
   fitting e = let fit = no_fault c _ _ _ _ e in let r = fit.rooms in record {
-    table-size = elim [ table_0 ↦ length-read_many cell_form c.r m.table0 | table_1 ↦ length-read_many cell_form c.r m.table1 ];
-    queue-fits = omega (arith, length-read_many entry_form c.queue_len m.queue);
-    detector-fits = omega (arith, length-read_many pair_form c.detector_len m.detector);
+    table_size = elim [ table_0 ↦ length-read_many cell_form c.r m.table0 | table_1 ↦ length-read_many cell_form c.r m.table1 ];
+    queue_fits = omega (arith, length-read_many entry_form c.queue_len m.queue);
+    detector_fits = omega (arith, length-read_many pair_form c.detector_len m.detector);
   }
 
   passed : fault_in c m ≡ 0 → passes c m ≡ true → SoundIn c m
@@ -90,17 +90,17 @@ module _ (c : Control) (m : Lent) where
       record {
         in_range = t.0;
         buffers = t.1;
-        contents = (rules-check-is-exact (numbers_of c) (store_of c m) (fitting e)).0 q.0;
-        queue-zeros = past _ m.queue q.1;
-        detector-zeros = past _ m.detector d.1;
+        contents = (rules_check_is_exact (numbers_of c) (store_of c m) (fitting e)).0 q.0;
+        queue_zeros = past _ m.queue q.1;
+        detector_zeros = past _ m.detector d.1;
       }
 
   passing : SoundIn c m → passes c m ≡ true
   unfolding is_sound_in
   passing s =
-      let is : is_sound (numbers_of c) (store_of c m) ≡ true = (rules-check-is-exact (numbers_of c) (store_of c m) (fitting (no_faults c m s))).1 (contents c m s) in
-      let q : all_zero (drop (3 * c.queue_len) m.queue) ≡ true = all_zero_lem _ (λ i. get_or-drop (3 * c.queue_len) m.queue i 0 ∙ s.queue-zeros _ (omega arith)) in
-      let d : all_zero (drop (2 * c.detector_len) m.detector) ≡ true = all_zero_lem _ (λ i. get_or-drop (2 * c.detector_len) m.detector i 0 ∙ s.detector-zeros _ (omega arith)) in
+      let is : is_sound (numbers_of c) (store_of c m) ≡ true = (rules_check_is_exact (numbers_of c) (store_of c m) (fitting (no_faults c m s))).1 (contents c m s) in
+      let q : all_zero (drop (3 * c.queue_len) m.queue) ≡ true = all_zero_lem _ (λ i. get_or-drop (3 * c.queue_len) m.queue i 0 ∙ s.queue_zeros _ (omega arith)) in
+      let d : all_zero (drop (2 * c.detector_len) m.detector) ≡ true = all_zero_lem _ (λ i. get_or-drop (2 * c.detector_len) m.detector i 0 ∙ s.detector_zeros _ (omega arith)) in
       (and-eq-true_iff (is_sound (numbers_of c) (store_of c m) && all_zero (drop (3 * c.queue_len) m.queue)) (all_zero (drop (2 * c.detector_len) m.detector))).1
       ((and-eq-true_iff (is_sound (numbers_of c) (store_of c m)) (all_zero (drop (3 * c.queue_len) m.queue))).1 (is, q), d)
 
@@ -114,7 +114,7 @@ module _ (c : Control) (m : Lent) where
 
       go : Dec (fault_in c m ≡ 0) → SoundIn c m
       go (yes e) = tested e (passes c m) refl (ap (λ (o : Outcome). o.answer.number) (sym (goes_on_lem c m (checking c m) e)) ∙ h)
-      go (no d) = absurd (d (ap (λ (o : Outcome). o.answer.number) (keeps-all c m (checking c m) (fault_in c m) refl d) ∙ h))
+      go (no d) = absurd (d (ap (λ (o : Outcome). o.answer.number) (keeps_all c m (checking c m) (fault_in c m) refl d) ∙ h))
 
   sound_is_accepted : SoundIn c m → (checked c m).answer.number ≡ 0
   unfolding checked

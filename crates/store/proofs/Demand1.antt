@@ -6,10 +6,10 @@ use mathlib.Core.Bool.{Bool, true, false, cond, not}
 use native.Mathlib.Omega.{arith}
 use borrow.Author.Tests.{eqb-true}
 use Rattle.rules.specs.Store.{fresh}
-use Rattle.rules.specs.Calls.{Answer as RulesAnswer, answer, find, define, change, remove, settle, Call, Find, Define, Change, Remove, Settle, does as rulesDo}
+use Rattle.rules.specs.Calls.{Answer as RulesAnswer, answer, find, define, change, remove, settle, Call, Find, Define, Change, Remove, Settle, does as rules_do}
 use Rattle.rules.specs.Keeps.{is_accepted}
 use Rattle.rules.specs.Search.{search}
-use Rattle.rules.proofs.Limits.{refusals_change_nothing, calls_are_limited as rules-are-limited}
+use Rattle.rules.proofs.Limits.{refusals_change_nothing, calls_are_limited as rules_are_limited}
 use Rattle.store.specs.declared.Control.{Control}
 use Rattle.layout.specs.Memory.{Lent}
 use Rattle.store.specs.Memory.{numbers_of, store_of, words_of, record_of, with_lens}
@@ -39,13 +39,13 @@ goes_on (Change x v) c m = changing c x v m (change (numbers_of c) x v (store_of
 goes_on (Remove x) c m = leaves c m (remove (numbers_of c) x (store_of c m))
 goes_on (Settle n) c m = leaves c m (settle (numbers_of c) n (store_of c m))
 
-pub does-is : (call : Call) (c : Control) (m : Lent) → unless_fault c m (goes_on call c m) ≡ does call c m
+pub does_is : (call : Call) (c : Control) (m : Lent) → unless_fault c m (goes_on call c m) ≡ does call c m
 unfolding found defined changed removed settled
-does-is (Find x) c m = refl
-does-is (Define x v) c m = refl
-does-is (Change x v) c m = refl
-does-is (Remove x) c m = refl
-does-is (Settle n) c m = refl
+does_is (Find x) c m = refl
+does_is (Define x v) c m = refl
+does_is (Change x v) c m = refl
+does_is (Remove x) c m = refl
+does_is (Settle n) c m = refl
 
 -- the rules' answer, and everything as it was if that is a refusal
 pub record Answers (c : Control) (m : Lent) (a : RulesAnswer) (o : Outcome) : Type 0 where
@@ -60,7 +60,7 @@ accepts c m a m' c' = go (is_accepted a) refl
     go true e = record { answer = refl; kept = λ nz. absurd (nz (eqb-true a.number 0 e)) }
     go false e = record { answer = refl; kept = λ nz. (refl, refl) }
 
-pub answers : (call : Call) (c : Control) (m : Lent) → Answers c m (rulesDo (numbers_of c) call (store_of c m)).answer (goes_on call c m)
+pub answers : (call : Call) (c : Control) (m : Lent) → Answers c m (rules_do (numbers_of c) call (store_of c m)).answer (goes_on call c m)
 unfolding leaves changing
 answers (Find x) c m = record { answer = refl; kept = λ nz. (refl, refl) }
 answers (Define x v) c m = let o = define (numbers_of c) x v (store_of c m) in accepts c m o.answer (words_of c o.store) (record_of c o.store)
@@ -68,18 +68,18 @@ answers (Change x v) c m = accepts c m (change (numbers_of c) x v (store_of c m)
 answers (Remove x) c m = let o = remove (numbers_of c) x (store_of c m) in accepts c m o.answer (words_of c o.store) (record_of c o.store)
 answers (Settle n) c m = let o = settle (numbers_of c) n (store_of c m) in accepts c m o.answer (words_of c o.store) (record_of c o.store)
 
-kept-untouched : (c : Control) (m : Lent) (k : ℕ) → Untouched c m (keeps c m (answer k 0 0 0))
-kept-untouched c m k = record { words = refl; control = refl; value = λ ne. refl; no_steps = refl; no_moves = refl }
+kept_untouched : (c : Control) (m : Lent) (k : ℕ) → Untouched c m (keeps c m (answer k 0 0 0))
+kept_untouched c m k = record { words = refl; control = refl; value = λ ne. refl; no_steps = refl; no_moves = refl }
 
 pub call_refusals_change_nothing : CallRefusalsChangeNothing
-call_refusals_change_nothing call c m = subst (λ o. o.answer.number ≢ 0 → Untouched c m o) (does-is call c m)
-    (by_fault c m (goes_on call c m) (λ o. o.answer.number ≢ 0 → Untouched c m o) (λ k nz r. kept-untouched c m k) on)
+call_refusals_change_nothing call c m = subst (λ o. o.answer.number ≢ 0 → Untouched c m o) (does_is call c m)
+    (by_fault c m (goes_on call c m) (λ o. o.answer.number ≢ 0 → Untouched c m o) (λ k nz r. kept_untouched c m k) on)
   where
     on : (goes_on call c m).answer.number ≢ 0 → Untouched c m (goes_on call c m)
     on nz =
         let a = answers call c m in
-        let e : (goes_on call c m).answer.number ≡ (rulesDo (numbers_of c) call (store_of c m)).answer.number = ap (λ a. a.number) a.answer in
-        let refuses : (rulesDo (numbers_of c) call (store_of c m)).answer.number ≢ 0 = λ z. nz (e ∙ z) in
+        let e : (goes_on call c m).answer.number ≡ (rules_do (numbers_of c) call (store_of c m)).answer.number = ap (λ a. a.number) a.answer in
+        let refuses : (rules_do (numbers_of c) call (store_of c m)).answer.number ≢ 0 = λ z. nz (e ∙ z) in
         let u = refusals_change_nothing (numbers_of c) call (store_of c m) refuses in
         record {
           words = (a.kept refuses).0;
@@ -91,21 +91,21 @@ call_refusals_change_nothing call c m = subst (λ o. o.answer.number ≢ 0 → U
 
 pub check_changes_nothing : CheckChangesNothing
 unfolding checked checking
-check_changes_nothing c m = by_fault c m (checking c m) (Untouched c m) (λ k nz. kept-untouched c m k)
+check_changes_nothing c m = by_fault c m (checking c m) (Untouched c m) (λ k nz. kept_untouched c m k)
     (go (is_sound_in (numbers_of c) c.r c.queue_len c.detector_len m.table0 m.table1 m.queue m.detector))
   where
     go : (b : Bool) → Untouched c m (cond b (keeps c m (answer 0 0 0 0)) (keeps c m (answer 9 0 0 0)))
-    go true = kept-untouched c m 0
-    go false = kept-untouched c m 9
+    go true = kept_untouched c m 0
+    go false = kept_untouched c m 9
 
 pub calls_are_limited : CallsAreLimited
-calls_are_limited call c m = subst (Limited c) (does-is call c m)
+calls_are_limited call c m = subst (Limited c) (does_is call c m)
     (by_fault c m (goes_on call c m) (Limited c) (λ k nz. record { steps_at_most_L = omega arith; moves_at_most_steps = omega arith }) on)
   where
     on : Limited c (goes_on call c m)
     on =
         let e = (answers call c m).answer in
-        let l = rules-are-limited (numbers_of c) call (store_of c m) in
+        let l = rules_are_limited (numbers_of c) call (store_of c m) in
         let steps = ap (λ a. a.steps) e in
         let moves = ap (λ a. a.moves) e in
         record { steps_at_most_L = omega (arith, l.steps_at_most_L); moves_at_most_steps = omega (arith, l.moves_at_most_steps) }
@@ -124,4 +124,4 @@ by_open c m P one two accepted = go (in_range c) refl (sized_in c m) refl
 
 pub open_refusals_give_zeros : OpenRefusalsGiveZeros
 open_refusals_give_zeros c m = by_open c m (λ o. o.answer.number ≢ 0 → Untouched zeros m o)
-    (λ nz. kept-untouched zeros m 1) (λ nz. kept-untouched zeros m 2) (λ e f nz. absurd (nz refl))
+    (λ nz. kept_untouched zeros m 1) (λ nz. kept_untouched zeros m 2) (λ e f nz. absurd (nz refl))

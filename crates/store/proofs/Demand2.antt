@@ -13,7 +13,7 @@ use Rattle.rules.specs.Keeps.{after_call}
 use Rattle.rules.specs.Sound.{IsGood}
 use Rattle.rules.proofs.Open.{fresh-sound, fresh-lookup}
 use Rattle.rules.proofs.CallsKept.{call_changes_lookup}
-use Rattle.rules.proofs.Demand2.{found as finds-told, places}
+use Rattle.rules.proofs.Demand2.{found as finds_told, places}
 use Rattle.store.specs.declared.Control.{Control}
 use Rattle.layout.specs.Memory.{Lent}
 use Rattle.store.specs.Memory.{numbers_of, store_of, record_of}
@@ -80,6 +80,6 @@ demand_2 past k good =
     let ok = contents c m g.sound in
     record {
       finds = ap (λ o. o.answer) (goes_on_lem c m (keeps c m (find (numbers_of c) k (store_of c m)).answer) (no_faults c m g.sound))
-          ∙ ap (answered c) (finds-told (numbers_of c) (store_of c m) ok k good (recalled k past) (g.knows k good));
+          ∙ ap (answered c) (finds_told (numbers_of c) (store_of c m) ok k good (recalled k past) (g.knows k good));
       lies = places (numbers_of c) (store_of c m) ok k good (recalled k past) (g.knows k good);
     }

@@ -6,8 +6,8 @@ use native.Mathlib.Omega.{arith}
 use lib.ListN.{length}
 use Rattle.rules.specs.Store.{Entry, Store, Numbers}
 use Rattle.rules.specs.Calls.{Settle, settle}
-use Rattle.rules.specs.Demand3.{settle_all as rulesSettleAll, steps_in_all as rulesStepsInAll, granted, bound as rulesBound}
-use Rattle.rules.proofs.Demand3.{demand_3 as rules-demand-3, demand_3_converse as rules-demand-3-converse}
+use Rattle.rules.specs.Demand3.{settle_all as rules_settle_all, steps_in_all as rules_steps_in_all, granted, bound as rules_bound}
+use Rattle.rules.proofs.Demand3.{demand_3 as rules_demand_3, demand_3_converse as rules_demand_3_converse}
 use Rattle.layout.specs.Forms.{entry_form}
 use Rattle.layout.proofs.Forms.{length-read_many}
 use Rattle.store.specs.Memory.{functions_of, rooms_of, numbers_of, store_of}
@@ -29,24 +29,24 @@ waits : (h : Held) → length (stands h).waiting ≡ h.control.queue_len
 waits h = length-read_many entry_form h.control.queue_len h.lent.queue
 
 -- settle calls over words are the rules' settle calls
-pub settles_as : (budgets : List ℕ) (h : Held) → SoundIn h.control h.lent → stands (settle_all budgets h) ≡ rulesSettleAll (numbers h) budgets (stands h)
-unfolding settle_all rulesSettleAll
+pub settles_as : (budgets : List ℕ) (h : Held) → SoundIn h.control h.lent → stands (settle_all budgets h) ≡ rules_settle_all (numbers h) budgets (stands h)
+unfolding settle_all rules_settle_all
 settles_as [] h sound = refl
 settles_as (b ∷ budgets) h sound =
     let s = simulates (Settle b) h.control h.lent sound in
     let g : Held = given (settled h.control b h.lent) in
     settles_as budgets g s.sound
-    ∙ ap (λ n. rulesSettleAll n budgets (stands g)) s.numbers ∙ ap (rulesSettleAll (numbers h) budgets) s.store
+    ∙ ap (λ n. rules_settle_all n budgets (stands g)) s.numbers ∙ ap (rules_settle_all (numbers h) budgets) s.store
 
-pub steps_as : (budgets : List ℕ) (h : Held) → SoundIn h.control h.lent → steps_in_all budgets h ≡ rulesStepsInAll (numbers h) budgets (stands h)
-unfolding steps_in_all rulesStepsInAll
+pub steps_as : (budgets : List ℕ) (h : Held) → SoundIn h.control h.lent → steps_in_all budgets h ≡ rules_steps_in_all (numbers h) budgets (stands h)
+unfolding steps_in_all rules_steps_in_all
 steps_as [] h sound = refl
 steps_as (b ∷ budgets) h sound =
     let s = simulates (Settle b) h.control h.lent sound in
     let g : Held = given (settled h.control b h.lent) in
     ap (λ k. (settled h.control b h.lent).answer.steps + k)
-    (steps_as budgets g s.sound ∙ ap (λ n. rulesStepsInAll n budgets (stands g)) s.numbers ∙ ap (rulesStepsInAll (numbers h) budgets) s.store)
-    ∙ ap (λ k. k + rulesStepsInAll (numbers h) budgets (settle (numbers h) b (stands h)).store) (ap (λ a. a.steps) s.answer)
+    (steps_as budgets g s.sound ∙ ap (λ n. rules_steps_in_all n budgets (stands g)) s.numbers ∙ ap (rules_steps_in_all (numbers h) budgets) s.store)
+    ∙ ap (λ k. k + rules_steps_in_all (numbers h) budgets (settle (numbers h) b (stands h)).store) (ap (λ a. a.steps) s.answer)
 
 -- nothing waits exactly if the queue is empty
 none_waits : (h : Held) → (stands h).waiting ≡ [] → h.control.queue_len ≡ 0
@@ -58,8 +58,8 @@ empty (x ∷ q) e = absurd (omega arith)
 
 pub demand_3 : Demand3
 demand_3 c m sound fit =
-    let r = rules-demand-3 (numbers_of c) (into c m sound) (store_of c m) (contents c m sound) fit in
-    let same : bound c ≡ rulesBound (numbers_of c) (store_of c m) = ap (λ q. (q + 1) * c.detector_room) (sym (waits (start c m))) in
+    let r = rules_demand_3 (numbers_of c) (into c m sound) (store_of c m) (contents c m sound) fit in
+    let same : bound c ≡ rules_bound (numbers_of c) (store_of c m) = ap (λ q. (q + 1) * c.detector_room) (sym (waits (start c m))) in
     record {
       empties = λ budgets l. none_waits (settle_all budgets (start c m)) (ap (λ s. s.waiting) (settles_as budgets (start c m) sound) ∙ r.empties budgets (subst (λ k. k ≤ granted (numbers_of c) budgets) same l));
       within = λ budgets. rw (steps_as budgets (start c m) sound, same) (r.within budgets);
@@ -68,5 +68,5 @@ demand_3 c m sound fit =
 
 pub demand_3_converse : Demand3Converse
 demand_3_converse c m sound x G group more budgets none =
-    rules-demand-3-converse (numbers_of c) (into c m sound) (store_of c m) (contents c m sound) x G group more budgets
+    rules_demand_3_converse (numbers_of c) (into c m sound) (store_of c m) (contents c m sound) x G group more budgets
     (ap (λ s. s.waiting) (sym (settles_as budgets (start c m) sound)) ∙ empty (stands (settle_all budgets (start c m))).waiting (waits (settle_all budgets (start c m)) ∙ none))

@@ -20,15 +20,15 @@ use Rattle.store.specs.Refusals.{in_range, sized_in, lengths_within, Outcome, ke
 abbrev pub sized : Control → ℕ → ℕ → ℕ → ℕ → Bool
 sized c n0 n1 nq nd = lengths_fit (functions_of c) (rooms_of c) n0 n1 nq nd
 
-pub own-sizes : (c : Control) (n0 n1 nq nd : ℕ) → sized c n0 n1 nq nd ≡ true → Sizes (functions_of c) (rooms_of c) n0 n1 nq nd
-own-sizes c n0 n1 nq nd h = sizes (functions_of c) (rooms_of c) n0 n1 nq nd h
+pub own_sizes : (c : Control) (n0 n1 nq nd : ℕ) → sized c n0 n1 nq nd ≡ true → Sizes (functions_of c) (rooms_of c) n0 n1 nq nd
+own_sizes c n0 n1 nq nd h = sizes (functions_of c) (rooms_of c) n0 n1 nq nd h
 
 pub no_fault : (c : Control) (n0 n1 nq nd : ℕ) → fault_of (functions_of c) (rooms_of c) n0 n1 nq nd ≡ 0 → Fit (functions_of c) (rooms_of c) n0 n1 nq nd
 unfolding fault_of within_rooms
 no_fault c n0 n1 nq nd h =
     let t = accepted-tests (in_range c) (sized c n0 n1 nq nd) (leb c.queue_len c.queue_room && leb c.detector_len c.detector_room) h in
     let r = ranges (functions_of c) (rooms_of c) t.0 in
-    let s = own-sizes c n0 n1 nq nd t.1 in
+    let s = own_sizes c n0 n1 nq nd t.1 in
     let f = both (leb c.queue_len c.queue_room) (leb c.detector_len c.detector_room) t.2 in
     record {
       some = r.some;
@@ -38,8 +38,8 @@ no_fault c n0 n1 nq nd h =
       first = s.first;
       second = s.second;
       rooms = record {
-        queue-small = r.queue-small;
-        detector-small = r.detector-small;
+        queue_small = r.queue_small;
+        detector_small = r.detector_small;
         queue = s.queue;
         detector = s.detector;
         queue_in = leb-true _ _ f.0;
@@ -65,9 +65,9 @@ module _ (c : Control) (m : Lent) (after : Outcome) where
       go true false f e = absurd (omega arith)
       go false b f e = absurd (omega arith)
 
-  pub keeps-all : (k : ℕ) → k ≡ fault_in c m → k ≢ 0 → keeps c m (answer k 0 0 0) ≡ unless_fault c m after
+  pub keeps_all : (k : ℕ) → k ≡ fault_in c m → k ≢ 0 → keeps c m (answer k 0 0 0) ≡ unless_fault c m after
   unfolding unless_fault fault_of
-  keeps-all k e nz = go (in_range c) (sized_in c m) (lengths_within c) e
+  keeps_all k e nz = go (in_range c) (sized_in c m) (lengths_within c) e
     where
       go : (a b f : Bool) → k ≡ cond a (cond b (cond f 0 3) 2) 1 → keeps c m (answer k 0 0 0) ≡ tests a b f
       go true true true e = absurd (nz e)

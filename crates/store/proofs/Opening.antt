@@ -21,12 +21,12 @@ use Rattle.layout.specs.Memory.{words_in, Lent, lent}
 use Rattle.store.specs.Memory.{numbers_of, words_of, with_lens}
 use Rattle.store.specs.Refusals.{in_range, sized_in, lengths_within, outcome, answered, keeps, refuse_if}
 use Rattle.store.specs.Calls.{zeros, new_record, opened}
-use Rattle.store.proofs.Faults.{own-sizes, fault_in}
+use Rattle.store.proofs.Faults.{own_sizes, fault_in}
 
 -- a new record's lengths are within its rooms
-pub new-within : (r Q D L a0 b0 a1 b1 : ℕ) → lengths_within (new_record r Q D L a0 b0 a1 b1) ≡ true
+pub new_within : (r Q D L a0 b0 a1 b1 : ℕ) → lengths_within (new_record r Q D L a0 b0 a1 b1) ≡ true
 unfolding within_rooms
-new-within r Q D L a0 b0 a1 b1 = rw (le-leb 0 Q (omega arith), le-leb 0 D (omega arith))
+new_within r Q D L a0 b0 a1 b1 = rw (le-leb 0 Q (omega arith), le-leb 0 D (omega arith))
 
 pub open_refuses : (c : Control) (m : Lent) (k : ℕ) → lengths_within c ≡ true → k ≡ fault_in c m → k ≢ 0 → keeps zeros m (answer k 0 0 0) ≡ opened c m
 unfolding opened fault_of
@@ -41,8 +41,8 @@ open_refuses c m k full e nz = go (in_range c) (sized_in c m) (lengths_within c)
     go false b f g e = ap (λ j. keeps zeros m (answer j 0 0 0)) e
 
 -- all words of a buffer cleared
-all-cleared : (n : ℕ) (ws : List ℕ) → length ws ≡ n → cleared 0 (length ws) ws ≡ pad_to n []
-all-cleared n ws e = ap (λ k. cleared 0 k ws) e ∙ pad_clear n 0 ws e (omega arith)
+all_cleared : (n : ℕ) (ws : List ℕ) → length ws ≡ n → cleared 0 (length ws) ws ≡ pad_to n []
+all_cleared n ws e = ap (λ k. cleared 0 k ws) e ∙ pad_clear n 0 ws e (omega arith)
 
 -- the words of free cells
 zero_words : (r : ℕ) → replicate (2 * r) 0 ≡ write_many cell_form (replicate r free_cell)
@@ -50,9 +50,9 @@ unfolding write_many
 zero_words zero = refl
 zero_words (suc r) = let e : 2 * suc r ≡ suc (suc (2 * r)) = omega arith in ap (λ k. replicate k 0) e ∙ ap (λ l. 0 ∷ 0 ∷ l) (zero_words r)
 
-free-words : (r : ℕ) → pad_to (2 * r) [] ≡ write_many cell_form (replicate r free_cell)
+free_words : (r : ℕ) → pad_to (2 * r) [] ≡ write_many cell_form (replicate r free_cell)
 unfolding pad_to
-free-words r = ap (λ k. replicate k 0) (sub-zero (2 * r)) ∙ zero_words r
+free_words r = ap (λ k. replicate k 0) (sub-zero (2 * r)) ∙ zero_words r
 
 -- an outcome by its five parts
 as_one : {t0 t1 q d u0 u1 p e : List ℕ} {a b : Answer} → t0 ≡ u0 → t1 ≡ u1 → q ≡ p → d ≡ e → a ≡ b → outcome (lent t0 t1 q d) a ≡ outcome (lent u0 u1 p e) b
@@ -64,6 +64,6 @@ pub open_accepts : (c : Control) (t0 t1 q d : List ℕ) {u0 u1 p e : List ℕ} {
 unfolding opened words_in fresh packed write_many
 open_accepts c t0 t1 q d h e0 e1 eq ed ea =
     let t = accepted-tests (in_range c) (sized_in c (lent t0 t1 q d)) (lengths_within c) (unfold fault_of in h) in
-    let z = own-sizes c (length t0) (length t1) (length q) (length d) t.1 in
-    as_one (e0 ∙ all-cleared _ t0 z.first ∙ free-words c.r) (e1 ∙ all-cleared _ t1 z.second ∙ free-words c.r) (eq ∙ all-cleared _ q z.queue) (ed ∙ all-cleared _ d z.detector) ea
+    let z = own_sizes c (length t0) (length t1) (length q) (length d) t.1 in
+    as_one (e0 ∙ all_cleared _ t0 z.first ∙ free_words c.r) (e1 ∙ all_cleared _ t1 z.second ∙ free_words c.r) (eq ∙ all_cleared _ q z.queue) (ed ∙ all_cleared _ d z.detector) ea
     ∙ simp (t.0, t.1)

@@ -58,21 +58,21 @@ Inside c nowhere = Unit {0}
 
 module _ (c : Control) (m : Lent) (v : ℕ) where
   -- the words hold the store with the value replaced
-  pub put-store : Sizes (functions_of c) (rooms_of c) (length m.table0) (length m.table1) (length m.queue) (length m.detector) → c.queue_len ≤ c.queue_room
+  pub put_store : Sizes (functions_of c) (rooms_of c) (length m.table0) (length m.table1) (length m.queue) (length m.detector) → c.queue_len ≤ c.queue_room
       → (p : Place) → Inside c p → store_of c (put_value p v m) ≡ with_value p v (store_of c m)
-  put-store sizes fits (in_table table_0 i) h =
+  put_store sizes fits (in_table table_0 i) h =
       ap (λ cs. store (record { table0 = cs; table1 = cells_in c.r m.table1 }) (store_of c m).waiting (store_of c m).marked) (put_in_cell c.r i v m.table0 h (omega (arith, sizes.first)))
-  put-store sizes fits (in_table table_1 i) h =
+  put_store sizes fits (in_table table_1 i) h =
       ap (λ cs. store (record { table0 = cells_in c.r m.table0; table1 = cs }) (store_of c m).waiting (store_of c m).marked) (put_in_cell c.r i v m.table1 h (omega (arith, sizes.second)))
-  put-store sizes fits (waiting_at j) h =
+  put_store sizes fits (waiting_at j) h =
       ap (λ es. store (store_of c m).tables es (store_of c m).marked) (put_in_entry c.queue_len j v m.queue h (omega (arith, sizes.queue)))
-  put-store sizes fits nowhere h = refl
+  put_store sizes fits nowhere h = refl
 
-  pub put-sized : (p : Place) → sized_in c m ≡ true → sized_in c (put_value p v m) ≡ true
-  put-sized (in_table table_0 i) e = simp length-set e
-  put-sized (in_table table_1 i) e = simp length-set e
-  put-sized (waiting_at j) e = simp length-set e
-  put-sized nowhere e = e
+  pub put_sized : (p : Place) → sized_in c m ≡ true → sized_in c (put_value p v m) ≡ true
+  put_sized (in_table table_0 i) e = simp length-set e
+  put_sized (in_table table_1 i) e = simp length-set e
+  put_sized (waiting_at j) e = simp length-set e
+  put_sized nowhere e = e
 
   -- past the lengths nothing is put
   pub put_behind : (p : Place) → Inside c p → (i : ℕ) → 3 * c.queue_len ≤ i → get_or (put_value p v m).queue i 0 ≡ get_or m.queue i 0
@@ -81,8 +81,8 @@ module _ (c : Control) (m : Lent) (v : ℕ) where
   put_behind (waiting_at j) h k l = get_or-set_other m.queue (3 * j + 1) k v 0 (λ e. omega arith)
   put_behind nowhere h k l = refl
 
-  pub put-detector : (p : Place) → (put_value p v m).detector ≡ m.detector
-  put-detector (in_table table_0 i) = refl
-  put-detector (in_table table_1 i) = refl
-  put-detector (waiting_at j) = refl
-  put-detector nowhere = refl
+  pub put_detector : (p : Place) → (put_value p v m).detector ≡ m.detector
+  put_detector (in_table table_0 i) = refl
+  put_detector (in_table table_1 i) = refl
+  put_detector (waiting_at j) = refl
+  put_detector nowhere = refl

@@ -16,8 +16,8 @@ pub record SoundIn (c : Control) (m : Lent) : Type 0 where
   -- the parts of the paragraph that the rules know, of the store that record and words stand for
   pub contents : SoundContents (numbers_of c) (store_of c m)
   -- "places past the lengths are zero"
-  pub queue-zeros : (i : ℕ) → 3 * c.queue_len ≤ i → get_or m.queue i 0 ≡ 0
-  pub detector-zeros : (i : ℕ) → 2 * c.detector_len ≤ i → get_or m.detector i 0 ≡ 0
+  pub queue_zeros : (i : ℕ) → 3 * c.queue_len ≤ i → get_or m.queue i 0 ≡ 0
+  pub detector_zeros : (i : ℕ) → 2 * c.detector_len ≤ i → get_or m.detector i 0 ≡ 0
 
 -- "Open gives a sound store"
 abbrev pub OpenIsSound : Type 0

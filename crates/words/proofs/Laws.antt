@@ -9,11 +9,11 @@ use lib.ListN.{length, get_or, set, take, drop, replicate, length-append, length
 use lib.Seq.{length-take-le, drop-cons, set_at, get_or-drop, drop-drop, sets, paste, paste-zero, paste-suc, take-paste, drop-paste}
 use Rattle.words.specs.Words.{cleared, between, closed}
 
-pub two-sets : (ws : List ℕ) (at x y : ℕ) → set (set ws at x) (at + 1) y ≡ sets ws at (x ∷ y ∷ [])
-two-sets ws at x y = rw add-one
+pub two_sets : (ws : List ℕ) (at x y : ℕ) → set (set ws at x) (at + 1) y ≡ sets ws at (x ∷ y ∷ [])
+two_sets ws at x y = rw add-one
 
-pub three-sets : (ws : List ℕ) (at x y z : ℕ) → set (set (set ws at x) (at + 1) y) (at + 2) z ≡ sets ws at (x ∷ y ∷ z ∷ [])
-three-sets ws at x y z =
+pub three_sets : (ws : List ℕ) (at x y z : ℕ) → set (set (set ws at x) (at + 1) y) (at + 2) z ≡ sets ws at (x ∷ y ∷ z ∷ [])
+three_sets ws at x y z =
     let e : at + 2 ≡ suc (suc at) = omega arith in
     rw (add-one, e)
 
@@ -46,9 +46,9 @@ move_none at w ws =
     rw z (paste-zero ws at (drop (at + w) ws))
 
 -- a turn of the loop that moves up
-pub move-more : (at w i : ℕ) (ws : List ℕ) → at + w ≤ i → i < length ws
+pub move_more : (at w i : ℕ) (ws : List ℕ) → at + w ≤ i → i < length ws
     → set (paste ws at (drop (at + w) ws) (i - (at + w))) (i - w) (get_or (paste ws at (drop (at + w) ws) (i - (at + w))) i 0) ≡ paste ws at (drop (at + w) ws) (i + 1 - (at + w))
-move-more at w i ws h k =
+move_more at w i ws h k =
     let s : List ℕ = drop (at + w) ws in
     let n : ℕ = i - (at + w) in
     let p : List ℕ = paste ws at s n in

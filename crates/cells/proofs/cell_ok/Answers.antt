@@ -1,13 +1,13 @@
 -- `cells::cell_ok` meets its contract: a free cell by its value, any other by its key, its home and the home of its twin. Assumes nothing.
 use mathlib.Core.Path.{sym, ◌∙◌}
-use Rattle.cells.proofs.Tables.{free-cell, bad_key, not_home, at_home}
+use Rattle.cells.proofs.Tables.{free_value, bad_key, not_home, at_home}
 use Rattle.layout.specs.Memory.{cells_in}
 use Rattle.cells.proofs.cell_ok.Goals as goal
 
 pub returns-then-k-eq0 : goal.returns-then-k-eq0
 returns-then-k-eq0 c n h =
     let a = c.args in
-    free-cell a.f a.b a.i a.t.now a.other.now n h c.if-k-eq0.true
+    free_value a.f a.b a.i a.t.now a.other.now n h c.if-k-eq0.true
 
 pub returns-then-not-is_key : goal.returns-then-not-is_key
 returns-then-not-is_key c n h =

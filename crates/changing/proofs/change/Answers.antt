@@ -3,7 +3,7 @@ use Rattle.std.proofs.Common.{ap, not}
 use mathlib.Core.List.{[]}
 use native.Mathlib.Omega.{arith}
 use Rattle.finding.proofs.Searching.{located_as}
-use Rattle.changing.proofs.Changing.{changes_bad, changes-first, changes-second, changes-waiting, changes_none}
+use Rattle.changing.proofs.Changing.{changes_bad, changes_first, changes_second, changes_waiting, changes_none}
 use Rattle.changing.proofs.change.Goals as goal
 
 pub returns-then-not-is_key : goal.returns-then-not-is_key
@@ -32,19 +32,19 @@ exchange-requires-in-Waiting c =
 pub returns-in-Table0 : goal.returns-in-Table0
 returns-in-Table0 c d =
     let a = c.args in
-    changes-first a.f a.c a.x a.v a.t0.now a.t1.now a.queue.now d c.is_key.ensures (ap not c.if-not-is_key.false)
+    changes_first a.f a.c a.x a.v a.t0.now a.t1.now a.queue.now d c.is_key.ensures (ap not c.if-not-is_key.false)
     (located_as (c.search-s.ensures d).at c.in-Table0.is) c.exchange.ensures
 
 pub returns-in-Table1 : goal.returns-in-Table1
 returns-in-Table1 c d =
     let a = c.args in
-    changes-second a.f a.c a.x a.v a.t0.now a.t1.now a.queue.now d c.is_key.ensures (ap not c.if-not-is_key.false)
+    changes_second a.f a.c a.x a.v a.t0.now a.t1.now a.queue.now d c.is_key.ensures (ap not c.if-not-is_key.false)
     (located_as (c.search-s.ensures d).at c.in-Table1.is) c.exchange-in-Table1.ensures
 
 pub returns-in-Waiting : goal.returns-in-Waiting
 returns-in-Waiting c d =
     let a = c.args in
-    changes-waiting a.f a.c a.x a.v a.t0.now a.t1.now a.queue.now d c.is_key.ensures (ap not c.if-not-is_key.false)
+    changes_waiting a.f a.c a.x a.v a.t0.now a.t1.now a.queue.now d c.is_key.ensures (ap not c.if-not-is_key.false)
     (located_as (c.search-s.ensures d).at c.in-Waiting.is) c.exchange-in-Waiting.ensures
 
 pub returns-in-Nowhere : goal.returns-in-Nowhere

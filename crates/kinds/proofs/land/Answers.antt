@@ -2,7 +2,7 @@
 use mathlib.Core.Path.{refl, ◌∙◌}
 use Rattle.layout.specs.Forms.{entry_form, pair_form}
 use Rattle.layout.proofs.Forms.{entry_lawful, pair_lawful}
-use Rattle.layout.proofs.Ready.{front-gone, all-gone}
+use Rattle.layout.proofs.Ready.{front_gone, all_gone}
 use Rattle.kinds.proofs.land.Goals as goal
 
 pub returns : goal.returns
@@ -12,7 +12,7 @@ returns c =
     let w = s.requires.ready in
     record {
       table = c.put_two.ensures;
-      queue = c.close_gap.ensures ∙ front-gone entry_form entry_lawful a.ql a.queue.now w.queue w.queue_in s.requires.ql_nonzero;
-      detector = c.clear.ensures ∙ all-gone pair_form pair_lawful a.dl a.detector.now w.detector w.detector_in;
+      queue = c.close_gap.ensures ∙ front_gone entry_form entry_lawful a.ql a.queue.now w.queue w.queue_in s.requires.ql_nonzero;
+      detector = c.clear.ensures ∙ all_gone pair_form pair_lawful a.dl a.detector.now w.detector w.detector_in;
       answer = refl;
     }

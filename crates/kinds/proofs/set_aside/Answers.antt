@@ -2,7 +2,7 @@
 use mathlib.Core.Path.{refl, ◌∙◌}
 use Rattle.layout.specs.Forms.{entry_form, pair_form}
 use Rattle.layout.proofs.Forms.{entry_lawful, pair_lawful}
-use Rattle.layout.proofs.Ready.{front-gone, to_back, all-gone}
+use Rattle.layout.proofs.Ready.{front_gone, to_back, all_gone}
 use Rattle.kinds.specs.Shape.{entry}
 use Rattle.kinds.proofs.set_aside.Goals as goal
 
@@ -11,9 +11,9 @@ returns c =
     let s = c in
     let a = s.args in
     let w = s.requires.ready in
-    let gone = c.close_gap.ensures ∙ front-gone entry_form entry_lawful a.ql a.queue.now w.queue w.queue_in s.requires.ql_nonzero in
+    let gone = c.close_gap.ensures ∙ front_gone entry_form entry_lawful a.ql a.queue.now w.queue w.queue_in s.requires.ql_nonzero in
     record {
       queue = c.put_three.ensures ∙ to_back entry_form entry_lawful a.ql a.queue.now w.queue w.queue_in s.requires.ql_nonzero _ (entry a.y a.v a.b) gone;
-      detector = c.clear.ensures ∙ all-gone pair_form pair_lawful a.dl a.detector.now w.detector w.detector_in;
+      detector = c.clear.ensures ∙ all_gone pair_form pair_lawful a.dl a.detector.now w.detector w.detector_in;
       answer = refl;
     }

@@ -1,20 +1,20 @@
 -- `layout::is_marked` meets its contract: the pair is among the n exactly if it is among those from place i on. The measure is n - i. Assumes nothing.
 use mathlib.Core.Path.{sym, ◌∙◌}
 use native.Mathlib.Omega.{arith}
-use Rattle.layout.proofs.Searches.{marked-here, marked-past, marked_end}
+use Rattle.layout.proofs.Searches.{marked_here, marked_past, marked_end}
 use Rattle.layout.proofs.is_marked.Goals as goal
 
 pub returns-then-is_pair : goal.returns-then-is_pair
 returns-then-is_pair c =
     let a = c.args in
     let o = c.loop-i in
-    sym (o.invariant.1 ∙ marked-here a.y a.b a.ws.now a.n o.i c.loop-i-test.true (sym c.is_pair.ensures ∙ c.if-is_pair.true))
+    sym (o.invariant.1 ∙ marked_here a.y a.b a.ws.now a.n o.i c.loop-i-test.true (sym c.is_pair.ensures ∙ c.if-is_pair.true))
 
 pub loop-i-preserved : goal.loop-i-preserved
 loop-i-preserved c =
     let a = c.args in
     let o = c.loop-i in
-    (omega arith, o.invariant.1 ∙ marked-past a.y a.b a.ws.now a.n o.i c.loop-i-test.true (sym c.is_pair.ensures ∙ c.if-is_pair.false))
+    (omega arith, o.invariant.1 ∙ marked_past a.y a.b a.ws.now a.n o.i c.loop-i-test.true (sym c.is_pair.ensures ∙ c.if-is_pair.false))
 
 pub returns : goal.returns
 returns c =

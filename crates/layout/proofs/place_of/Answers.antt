@@ -1,7 +1,7 @@
 -- `layout::place_of` meets its contract: the search of the n entries answers what the search from place i on does. The measure is n - i. Assumes nothing.
 use mathlib.Core.Path.{sym, ◌∙◌}
 use native.Mathlib.Omega.{arith}
-use Rattle.layout.proofs.Searches.{place_here, place-past, place_end}
+use Rattle.layout.proofs.Searches.{place_here, place_past, place_end}
 use Rattle.layout.proofs.place_of.Goals as goal
 
 pub returns-then-ws-i : goal.returns-then-ws-i
@@ -14,7 +14,7 @@ pub loop-i-preserved : goal.loop-i-preserved
 loop-i-preserved c =
     let a = c.args in
     let o = c.loop-i in
-    (omega arith, o.invariant.1 ∙ place-past a.x a.ws.now a.n o.i c.loop-i-test.true c.if-ws-i.false)
+    (omega arith, o.invariant.1 ∙ place_past a.x a.ws.now a.n o.i c.loop-i-test.true c.if-ws-i.false)
 
 pub returns : goal.returns
 returns c =

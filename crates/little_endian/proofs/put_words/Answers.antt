@@ -1,10 +1,10 @@
 -- One word after the other. Assumes nothing.
 use Rattle.std.proofs.Common.{arith}
-use Rattle.little_endian.proofs.Image.{length-words, one_more}
+use Rattle.little_endian.proofs.Image.{length_words, one_more}
 use Rattle.little_endian.proofs.put_words.Goals as goal
 
 pub overflow_add-from : goal.overflow_add-from
-overflow_add-from c = omega (arith, length-words c.args.image.now)
+overflow_add-from c = omega (arith, length_words c.args.image.now)
 
 pub loop-j-preserved : goal.loop-j-preserved
 loop-j-preserved c =

@@ -2,11 +2,11 @@
 use Rattle.std.proofs.Common.{arith}
 use Rattle.std.proofs.Math.ListN.{length-set}
 use Rattle.little_endian.specs.Image.{words_of}
-use Rattle.little_endian.proofs.Image.{length-words, read_more}
+use Rattle.little_endian.proofs.Image.{length_words, read_more}
 use Rattle.little_endian.proofs.read_words.Goals as goal
 
 pub overflow_add-from : goal.overflow_add-from
-overflow_add-from c = omega (arith, length-words c.args.image.now)
+overflow_add-from c = omega (arith, length_words c.args.image.now)
 
 pub loop-j-preserved : goal.loop-j-preserved
 loop-j-preserved c =

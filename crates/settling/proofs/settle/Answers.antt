@@ -2,8 +2,8 @@
 use mathlib.Core.Path.{ap, ◌∙◌}
 use Rattle.layout.specs.Memory.{lent}
 use Rattle.finding.specs.Inner.{outcome}
-use Rattle.settling.proofs.Lying.{tidied-ready}
-use Rattle.settling.proofs.Settling.{too_many, settles-idle, settles}
+use Rattle.settling.proofs.Lying.{tidied_ready}
+use Rattle.settling.proofs.Settling.{too_many, settles_idle, settles}
 use Rattle.settling.proofs.settle.Goals as goal
 
 pub returns-then-c-n : goal.returns-then-c-n
@@ -16,7 +16,7 @@ pub returns-then-c-eq0 : goal.returns-then-c-eq0
 returns-then-c-eq0 c =
     let s = c in
     let a = s.args in
-    settles-idle a.f a.c a.n a.t0.now a.t1.now a.queue.now a.detector.now s.requires c.tidy.ensures c.if-c-n.false c.if-c-eq0.true c.reply-then-c-eq0.ensures
+    settles_idle a.f a.c a.n a.t0.now a.t1.now a.queue.now a.detector.now s.requires c.tidy.ensures c.if-c-n.false c.if-c-eq0.true c.reply-then-c-eq0.ensures
 
 pub run_out-requires-clause-ready : goal.run_out-requires-clause-ready
 run_out-requires-clause-ready c =
@@ -24,7 +24,7 @@ run_out-requires-clause-ready c =
     let a = s.args in
     let fit = s.requires in
     let tidy = c.tidy.ensures in
-    tidied-ready a.f a.c a.t0.now a.t1.now a.queue.now a.detector.now _ _ fit tidy
+    tidied_ready a.f a.c a.t0.now a.t1.now a.queue.now a.detector.now _ _ fit tidy
 
 pub returns : goal.returns
 returns c =

@@ -3,7 +3,7 @@ use mathlib.Core.Path.{sym, subst}
 use Prim.Native.Nat.{ℕ, ◌<◌}
 use lib.ListN.{length}
 use Rattle.numbers.proofs.Home.{home0_in_table, home1_in_table}
-use Rattle.steps.proofs.InStore.{first-table, second-table}
+use Rattle.steps.proofs.InStore.{first_table, second_table}
 use Rattle.layout.specs.Memory.{cells_in}
 use Rattle.steps.proofs.one_step.Goals as goal
 
@@ -18,7 +18,7 @@ pub returns-then-side-eq0 : goal.returns-then-side-eq0
 returns-then-side-eq0 c n w =
     let s = c in
     let a = s.args in
-    first-table n a.f a.room a.ql a.dl a.t0.now a.t1.now a.queue.now a.detector.now w s.requires.ql_nonzero (length a.queue.now) (length a.detector.now) _ _ _ _
+    first_table n a.f a.room a.ql a.dl a.t0.now a.t1.now a.queue.now a.detector.now w s.requires.ql_nonzero (length a.queue.now) (length a.detector.now) _ _ _ _
     c.if-side-eq0.true (rw c.in_table0-i.ensures at (c.step_in.ensures (cells_in a.f.r a.t1.now)))
 
 pub step_in-requires-2-clause-t_len : goal.step_in-requires-2-clause-t_len
@@ -32,5 +32,5 @@ pub returns : goal.returns
 returns c n w =
     let s = c in
     let a = s.args in
-    second-table n a.f a.room a.ql a.dl a.t0.now a.t1.now a.queue.now a.detector.now w s.requires.ql_nonzero (length a.queue.now) (length a.detector.now) _ _ _ _
+    second_table n a.f a.room a.ql a.dl a.t0.now a.t1.now a.queue.now a.detector.now w s.requires.ql_nonzero (length a.queue.now) (length a.detector.now) _ _ _ _
     c.if-side-eq0.false (rw c.in_table1-i.ensures at (c.step_in-2.ensures (cells_in a.f.r a.t0.now)))

@@ -1,6 +1,6 @@
 -- `steps::step_in` meets its contract: each kind of step leaves what the rules leave in that table. Assumes nothing.
 use mathlib.Core.Path.{refl, sym, ◌∙◌}
-use Rattle.steps.proofs.InTable.{lands, sets-aside, swaps}
+use Rattle.steps.proofs.InTable.{lands, sets_aside, swaps}
 use Rattle.steps.proofs.step_in.Goals as goal
 
 pub returns-then-t-i-eq0 : goal.returns-then-t-i-eq0
@@ -15,7 +15,7 @@ returns-then-must_stop c o =
     let s = c in
     let a = s.args in
     let stop = sym c.must_stop.ensures ∙ c.if-must_stop.true in
-    sets-aside a.r a.room a.i a.b a.ql a.dl a.t.now a.queue.now a.detector.now o s.requires.t_len.0 s.requires.t_len.1 s.requires.ready s.requires.ql_nonzero
+    sets_aside a.r a.room a.i a.b a.ql a.dl a.t.now a.queue.now a.detector.now o s.requires.t_len.0 s.requires.t_len.1 s.requires.ready s.requires.ql_nonzero
     _ _ _ _ c.if-t-i-eq0.false s.requires.b_bound stop c.set_aside.ensures refl
 
 pub returns : goal.returns

@@ -1,7 +1,7 @@
 -- `store::Control::change` meets its contract: refusals 1 to 3, else what `changing::change` gives. Assumes nothing.
 use Rattle.rules.specs.Calls.{change}
 use Rattle.layout.specs.Memory.{lent}
-use Rattle.finding.proofs.Fits.{tables-ready, queue_bounds}
+use Rattle.finding.proofs.Fits.{tables_ready, queue_bounds}
 use Rattle.store.specs.Calls.{changed}
 use Rattle.store.proofs.Carrying.{refused_by, fits_by, changes_by}
 use Rattle.store.proofs.Control.change.Goals as goal
@@ -18,7 +18,7 @@ change-requires c =
     let a = c.args in
     let m = lent a.t0.now a.t1.now a.queue.now a.detector.now in
     let fit = fits_by a.self m c.functions-f.ensures c.rooms-c.ensures c.fault-k.ensures c.if-k-ne0.false in
-    record { tables_ready = tables-ready _ _ m fit; queue_len_in_bounds = queue_bounds _ _ m fit }
+    record { tables_ready = tables_ready _ _ m fit; queue_len_in_bounds = queue_bounds _ _ m fit }
 
 pub returns : goal.returns
 unfolding changed

@@ -2,7 +2,7 @@
 use mathlib.Core.Path.{sym, ◌∙◌}
 use native.Mathlib.Omega.{arith}
 use Rattle.layout.specs.Memory.{lent}
-use Rattle.finding.proofs.Fits.{tables-ready}
+use Rattle.finding.proofs.Fits.{tables_ready}
 use Rattle.store.specs.Calls.{checked}
 use Rattle.store.proofs.Carrying.{tested, refused_by, own_fits_by, fits_by}
 use Rattle.store.proofs.Checking.{tested_by, checks_by}
@@ -20,7 +20,7 @@ is_sound-requires c =
     let a = c.args in
     let m = lent a.t0.now a.t1.now a.queue.now a.detector.now in
     let r = (own_fits_by a.self m c.functions-f.ensures c.rooms-c.ensures c.fault-k.ensures c.if-k-ne0.false).rooms in
-    record { tables_ready = tables-ready _ _ m (fits_by a.self m c.functions-f.ensures c.rooms-c.ensures c.fault-k.ensures c.if-k-ne0.false); ql_in_bounds = (omega arith, omega arith, omega arith, omega arith) }
+    record { tables_ready = tables_ready _ _ m (fits_by a.self m c.functions-f.ensures c.rooms-c.ensures c.fault-k.ensures c.if-k-ne0.false); ql_in_bounds = (omega arith, omega arith, omega arith, omega arith) }
 
 pub returns-then-is_sound : goal.returns-then-is_sound
 unfolding checked

@@ -3,7 +3,7 @@ use mathlib.Core.Path.{ap}
 use Rattle.rules.specs.Calls.{find}
 use Rattle.layout.specs.Memory.{lent}
 use Rattle.finding.specs.Inner.{outcome as inner}
-use Rattle.finding.proofs.Fits.{tables-ready, queue_bounds}
+use Rattle.finding.proofs.Fits.{tables_ready, queue_bounds}
 use Rattle.store.specs.Calls.{found}
 use Rattle.store.proofs.Carrying.{refused_by, fits_by, keeps_by}
 use Rattle.store.proofs.Control.find.Goals as goal
@@ -20,7 +20,7 @@ find-requires c =
     let a = c.args in
     let m = lent a.t0.now a.t1.now a.queue.now a.detector.now in
     let fit = fits_by a.self m c.functions-f.ensures c.rooms-c.ensures c.fault-k.ensures c.if-k-ne0.false in
-    record { tables_ready = tables-ready _ _ m fit; queue_len_in_bounds = queue_bounds _ _ m fit }
+    record { tables_ready = tables_ready _ _ m fit; queue_len_in_bounds = queue_bounds _ _ m fit }
 
 pub returns : goal.returns
 unfolding found

@@ -6,7 +6,7 @@ use Rattle.store.specs.declared.Control.{Control}
 use Rattle.store.specs.Refusals.{outcome, answered}
 use Rattle.store.specs.Calls.{new_record}
 use Rattle.store.proofs.Carrying.{tested}
-use Rattle.store.proofs.Opening.{new-within, open_refuses, open_accepts}
+use Rattle.store.proofs.Opening.{new_within, open_refuses, open_accepts}
 use Rattle.store.proofs.Control.open.Goals as goal
 
 pub returns-then-k-ne0 : goal.returns-then-k-ne0
@@ -14,7 +14,7 @@ returns-then-k-ne0 c =
     let a = c.args in
     let m = lent a.t0.now a.t1.now a.queue.now a.detector.now in
     ap (outcome m) (c.reply.ensures ∙ ap (λ (z : Control). answered z (answer c.fault-k.result 0 0 0)) c.zeros.ensures)
-    ∙ open_refuses (new_record a.r a.queue_room a.detector_room a.step_limit a.a0 a.b0 a.a1 a.b1) m _ (new-within a.r a.queue_room a.detector_room a.step_limit a.a0 a.b0 a.a1 a.b1) (tested (new_record a.r a.queue_room a.detector_room a.step_limit a.a0 a.b0 a.a1 a.b1) m c.functions-f.ensures c.rooms-w.ensures c.fault-k.ensures) c.if-k-ne0.true
+    ∙ open_refuses (new_record a.r a.queue_room a.detector_room a.step_limit a.a0 a.b0 a.a1 a.b1) m _ (new_within a.r a.queue_room a.detector_room a.step_limit a.a0 a.b0 a.a1 a.b1) (tested (new_record a.r a.queue_room a.detector_room a.step_limit a.a0 a.b0 a.a1 a.b1) m c.functions-f.ensures c.rooms-w.ensures c.fault-k.ensures) c.if-k-ne0.true
 
 pub returns : goal.returns
 returns c =
