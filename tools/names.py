@@ -82,7 +82,7 @@ def table():
 def in_logic(text, names):
     """A file of antt, or a line of one: everywhere but at the names that the check makes, the first step of a path and a goal."""
     def turn(match):
-        made = re.search(r"(?<![\w'\-.])(?:c|l|tie|goal)\.\Z", text[max(0, match.start() - 9):match.start()])
+        made = re.search(r"(?<![\w'\-.])(?:c|tie|goal)\.\Z", text[max(0, match.start() - 9):match.start()])
         return match.group(0) if made else names.get(match.group(0), match.group(0))
 
     for plain in PLAIN & names.keys():

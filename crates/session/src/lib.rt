@@ -168,7 +168,7 @@ impl Window {
     }
 }
 
-// The store and the input, handed from turn to turn.
+// The store and the input, kept from turn to turn.
 #[derive(Drop)]
 struct Session {
     bench: Bench,
