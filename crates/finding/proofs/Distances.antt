@@ -1,5 +1,6 @@
 -- Neither of two keys is x: by the product of their distances from x, and what it says of each. Assumes nothing.
-use Rattle.std.proofs.Common.{◌≡◌, ℕ, zero, suc, ◌+◌, ◌*◌, ◌%◌, ◌^◌, ◌<◌, Bool, true, false, not, ◌&&◌, eqb, ◌≢◌, sym, refl, ap, ◌∙◌, true≢false, mul-pos, mul-zero, zero-mul, arith, eq-eqb, ne_eqb, eqb-true}
+use Rattle.std.proofs.Common.{◌≡◌, ℕ, zero, suc, ◌+◌, ◌*◌, ◌%◌, ◌^◌, ◌<◌, Bool, true, false, not, ◌&&◌, eqb}
+use Rattle.std.proofs.Common.{◌≢◌, sym, refl, ap, ◌∙◌, true≢false, mul-pos, mul-zero, zero-mul, arith, eq-eqb, ne_eqb, eqb-true}
 use mathlib.Core.Bool.{and-eq-true_iff}
 use borrow.Author.Tests.{eqb-false, not-true}
 use Rattle.finding.specs.Inner.{is_neither}

@@ -1,5 +1,6 @@
 -- From what the code reads in the words to the place that the rules' search answers, and from a place to what find answers. Assumes nothing.
-use Rattle.std.proofs.Common.{◌≡◌, ℕ, ◌+◌, ◌*◌, ◌<◌, ◌≤◌, Bool, true, false, not, ◌≢◌, List, get_or, sym, refl, ap, ◌∙◌, subst, get_or-drop, le-ltb, lt-ltb, eq-eqb, ne_eqb}
+use Rattle.std.proofs.Common.{◌≡◌, ℕ, ◌+◌, ◌*◌, ◌<◌, ◌≤◌, Bool, true, false, not, ◌≢◌, List, get_or}
+use Rattle.std.proofs.Common.{sym, refl, ap, ◌∙◌, subst, get_or-drop, le-ltb, lt-ltb, eq-eqb, ne_eqb}
 use mathlib.Core.Option.{Option, none, some}
 use borrow.Author.Tests.{not-true, not-false}
 use Rattle.numbers.specs.declared.Functions.{Functions}
@@ -77,7 +78,9 @@ module _ (f : Functions) (c : Rooms) (x : ℕ) (m : Lent) (ready : TablesReady f
     pub sees_second : is_neither key0 key1 x ≡ false → key0 ≢ x → Sees f c x m (seen (Table1 j) 0 (get_or m.table1 (2 * j + 1) 0))
     sees_second either not_first = record {
       at = record {
-        is = rw home' (sym (search-second (numbers_of f c) x (store_of f c m) (λ h. not_first (sym (key-first home) ∙ h)) (key-second home' ∙ other_is either not_first)));
+        is = rw home' (
+            sym (search-second (numbers_of f c) x (store_of f c m) (λ h. not_first (sym (key-first home) ∙ h)) (key-second home' ∙ other_is either not_first))
+            );
         within = second_in home';
       };
       says = refl;
@@ -87,7 +90,8 @@ module _ (f : Functions) (c : Rooms) (x : ℕ) (m : Lent) (ready : TablesReady f
     sees_queue absent q =
         let not_in = neither_is absent in record {
           at = record {
-            is = q.is ∙ sym (search_queue_lem (numbers_of f c) x (store_of f c m) (λ h. not_in.0 (sym (key-first home) ∙ h)) (λ h. not_in.1 (sym (key-second home') ∙ h)));
+            is = q.is
+                ∙ sym (search_queue_lem (numbers_of f c) x (store_of f c m) (λ h. not_in.0 (sym (key-first home) ∙ h)) (λ h. not_in.1 (sym (key-second home') ∙ h)));
             within = q.within f;
           };
           says = q.says m.table0 m.table1 m.detector;

@@ -52,7 +52,8 @@ module _ (y b : ℕ) (ws : List ℕ) (n i : ℕ) where
   marked_end h = ap (is_marked y (meant b)) (read_none pair_form n i (drop (2 * i) ws) h)
 
 module _ (x : ℕ) (ws : List ℕ) (n i : ℕ) where
-  place_step : i < n → search_queue i x (entries_from ws n i) ≡ cond (eqb (get_or ws (3 * i) 0) x) (waiting_at i) (search_queue (i + 1) x (entries_from ws n (i + 1)))
+  place_step : i < n
+      → search_queue i x (entries_from ws n i) ≡ cond (eqb (get_or ws (3 * i) 0) x) (waiting_at i) (search_queue (i + 1) x (entries_from ws n (i + 1)))
   unfolding search_queue
   place_step h = ap (search_queue i x) (read_from entry_form n i ws h) ∙ simp (get_or-drop, add-zero, add-one)
 

@@ -1,6 +1,7 @@
 -- The ends of each range of the table "Numbers": the first and the last number are in it, their neighbours are not. The claim. Assumes nothing.
 use Rattle.std.specs.Prelude.{ℕ, ◌≡◌, Bool, true, not, ◌&&◌, List, [], ◌∷◌}
-use Rattle.numbers.specs.Ranges.{cells_in_range, queue_room_in_range, detector_room_in_range, step_limit_in_range, good_key, multiplier_in_range, addend_in_range}
+use Rattle.numbers.specs.Ranges.{cells_in_range, queue_room_in_range, detector_room_in_range, step_limit_in_range}
+use Rattle.numbers.specs.Ranges.{good_key, multiplier_in_range, addend_in_range}
 
 -- a range with numbers that are in it, and numbers that are not
 pub record Range : Type 0 where

@@ -44,7 +44,8 @@ cell_with cs k m =
     (v.0, ap (λ (c : Cell). c.key) v.1 ∙ u.2, λ z. v.2 (u.2 ∙ z))
 
 -- a table in which no two cells have one key
-cells_differ : (cs : List Cell) → ((i j : ℕ) → (get_or cs i free_cell).key ≢ 0 → (get_or cs i free_cell).key ≡ (get_or cs j free_cell).key → i ≡ j) → NoDup (cell_keys cs)
+cells_differ : (cs : List Cell)
+    → ((i j : ℕ) → (get_or cs i free_cell).key ≢ 0 → (get_or cs i free_cell).key ≡ (get_or cs j free_cell).key → i ≡ j) → NoDup (cell_keys cs)
 unfolding occupied
 cells_differ [] one = nil
 cells_differ (c ∷ cs) one = go (eqb c.key 0) refl (cells_differ cs (λ i j nz e. let p = one (suc i) (suc j) nz e in omega arith))

@@ -30,7 +30,8 @@ module _ (n : Numbers) (f : Functions) (room ql dl : ℕ) (t0 t1 q d : List ℕ)
   rest = drop 1 (entries_in ql q)
 
   -- a step looks at its entry's key and value alone
-  as_table : (t : Table) (b : ℕ) → meant (get_or q 2 0) ≡ t → step n s ≡ step_at room t (homes_of f t (get_or q 0 0)) (entry (get_or q 0 0) (get_or q 1 0) b) rest s
+  as_table : (t : Table) (b : ℕ) → meant (get_or q 2 0) ≡ t
+      → step n s ≡ step_at room t (homes_of f t (get_or q 0 0)) (entry (get_or q 0 0) (get_or q 1 0) b) rest s
   unfolding step step_from step_at
   as_table t b side =
       ap (step_from n s) (front ql q some)

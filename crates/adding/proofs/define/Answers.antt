@@ -11,14 +11,17 @@ returns-then-not-is_key c =
 pub returns-then-s-eq0 : goal.returns-then-s-eq0
 returns-then-s-eq0 c =
     let a = c.args in
-    refuses_held a.f a.c a.x a.v a.t0.now a.t1.now a.queue.now a.detector.now c.is_key.ensures (ap not c.if-not-is_key.false) (c.search-s.ensures a.detector.now) c.if-s-eq0.true c.reply-then-s-eq0.ensures
+    refuses_held a.f a.c a.x a.v a.t0.now a.t1.now a.queue.now a.detector.now c.is_key.ensures (ap not c.if-not-is_key.false)
+    (c.search-s.ensures a.detector.now) c.if-s-eq0.true c.reply-then-s-eq0.ensures
 
 pub returns-then-c : goal.returns-then-c
 returns-then-c c =
     let a = c.args in
-    refuses_full a.f a.c a.x a.v a.t0.now a.t1.now a.queue.now a.detector.now c.is_key.ensures (ap not c.if-not-is_key.false) (c.search-s.ensures a.detector.now) c.if-s-eq0.false c.if-c.true c.reply-then-c.ensures
+    refuses_full a.f a.c a.x a.v a.t0.now a.t1.now a.queue.now a.detector.now c.is_key.ensures (ap not c.if-not-is_key.false)
+    (c.search-s.ensures a.detector.now) c.if-s-eq0.false c.if-c.true c.reply-then-c.ensures
 
 pub returns : goal.returns
 returns c =
     let a = c.args in
-    defines a.f a.c a.x a.v a.t0.now a.t1.now a.queue.now a.detector.now c.is_key.ensures (ap not c.if-not-is_key.false) (c.search-s.ensures a.detector.now) c.if-s-eq0.false c.if-c.false c.seat.ensures
+    defines a.f a.c a.x a.v a.t0.now a.t1.now a.queue.now a.detector.now c.is_key.ensures (ap not c.if-not-is_key.false)
+    (c.search-s.ensures a.detector.now) c.if-s-eq0.false c.if-c.false c.seat.ensures

@@ -20,4 +20,5 @@ returns c =
     let tidy = c.tidy.ensures in
     let fit = tidied_fit a.f a.c a.t0.now a.t1.now a.queue.now a.detector.now _ _ s.requires.fit_in tidy in
     let ready = tidied_ready a.f a.c a.t0.now a.t1.now a.queue.now a.detector.now _ _ s.requires.fit_in tidy in
-    joined_runs a.f a.c a.x a.v a.t0.now a.t1.now _ _ _ s.requires.queue_len_bound fit ready c.put_three.ensures (tidied_store a.f a.c a.t0.now a.t1.now a.queue.now a.detector.now _ _ s.requires.fit_in tidy) c.run_out.ensures
+    joined_runs a.f a.c a.x a.v a.t0.now a.t1.now _ _ _ s.requires.queue_len_bound fit ready c.put_three.ensures
+    (tidied_store a.f a.c a.t0.now a.t1.now a.queue.now a.detector.now _ _ s.requires.fit_in tidy) c.run_out.ensures

@@ -25,4 +25,5 @@ returns-then-c-t0 c =
     let s = c in
     let a = s.args in
     let e = (and-eq-true_iff _ _).0 c.if-c-t0.true in
-    seated_at_once a.f a.c a.x a.v a.t0.now a.t1.now a.queue.now a.detector.now s.requires.fit_in (eqb-true _ _ e.0) c.in_table0-i.ensures (eqb-true _ _ e.1) c.put_two.ensures c.tidy.ensures c.of.ensures
+    seated_at_once a.f a.c a.x a.v a.t0.now a.t1.now a.queue.now a.detector.now s.requires.fit_in (eqb-true _ _ e.0) c.in_table0-i.ensures
+    (eqb-true _ _ e.1) c.put_two.ensures c.tidy.ensures c.of.ensures

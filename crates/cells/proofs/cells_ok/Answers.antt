@@ -14,8 +14,11 @@ returns-then-not-cell_ok c n h =
 pub loop-i-preserved : goal.loop-i-preserved
 loop-i-preserved c =
     let a = c.args in
-    let o = c.loop-i in
-    (omega arith, λ n h. o.invariant.1 n h ∙ cell_good n _ (meant a.b) a.f.r o.i a.t.now c.loop-i-test.true (sym (c.cell_ok.ensures n h) ∙ c.if-not-cell_ok.false))
+    let o = c.loop-i in (
+      omega arith,
+      λ n h. o.invariant.1 n h ∙ cell_good n _ (meant a.b) a.f.r o.i a.t.now c.loop-i-test.true
+          (sym (c.cell_ok.ensures n h) ∙ c.if-not-cell_ok.false),
+    )
 
 pub returns : goal.returns
 returns c n h =

@@ -9,7 +9,12 @@ use Rattle.cells.proofs.Tables.{cells_from}
 use Rattle.cells.proofs.cells_ok.Given as goal
 
 abbrev pub invariant-loop-i : goal.invariant-loop-i
-invariant-loop-i l = (l.i ≤ l.f.r) × ((n : Numbers) → n.home ≡ homes_of l.f → cells_ok n (with_table (meant l.b) (cells_in l.f.r l.t) (cells_in l.f.r l.other)) (meant l.b) 0 (cells_in l.f.r l.t) ≡ cells_ok n (with_table (meant l.b) (cells_in l.f.r l.t) (cells_in l.f.r l.other)) (meant l.b) l.i (cells_from l.f.r l.t l.i))
+invariant-loop-i l =
+    let both = with_table (meant l.b) (cells_in l.f.r l.t) (cells_in l.f.r l.other) in
+    (l.i ≤ l.f.r) × (
+    (n : Numbers) → n.home ≡ homes_of l.f
+    → cells_ok n both (meant l.b) 0 (cells_in l.f.r l.t) ≡ cells_ok n both (meant l.b) l.i (cells_from l.f.r l.t l.i)
+    )
 
 abbrev pub decreases-loop-i : goal.decreases-loop-i
 decreases-loop-i l = l.f.r - l.i

@@ -15,6 +15,7 @@ returns c =
     record {
       table = c.put_two.ensures;
       queue = c.put_three.ensures ∙ front_over entry_form entry_lawful a.ql a.queue.now w.queue w.queue_in s.requires.ql_nonzero (entry _ _ _);
-      detector = c.put_two-2.ensures ∙ one_behind pair_form pair_lawful a.dl a.detector.now w.detector w.detector_in (omega (arith, s.requires.dl_in_bounds)) (pair a.y a.b);
+      detector = c.put_two-2.ensures ∙ one_behind pair_form pair_lawful a.dl a.detector.now w.detector w.detector_in
+          (omega (arith, s.requires.dl_in_bounds)) (pair a.y a.b);
       answer = refl;
     }

@@ -32,5 +32,6 @@ pub returns : goal.returns
 returns c n w =
     let s = c in
     let a = s.args in
-    second_table n a.f a.room a.ql a.dl a.t0.now a.t1.now a.queue.now a.detector.now w s.requires.ql_nonzero (length a.queue.now) (length a.detector.now) _ _ _ _
+    second_table n a.f a.room a.ql a.dl a.t0.now a.t1.now a.queue.now a.detector.now w s.requires.ql_nonzero (length a.queue.now)
+    (length a.detector.now) _ _ _ _
     c.if-side-eq0.false (rw c.in_table1-i.ensures at (c.step_in-2.ensures (cells_in a.f.r a.t0.now)))

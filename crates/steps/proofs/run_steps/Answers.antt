@@ -1,4 +1,5 @@
--- `steps::run_steps` meets its contract. `Going` is the loop's invariant: the run from the entry is the steps done, and then a run of what is left. Assumes nothing.
+-- `steps::run_steps` meets its contract. `Going` is the loop's invariant: the run from the entry is the steps done, and then a run of what is left.
+-- Assumes nothing.
 use native.Mathlib.Nat.{pos_of_ne-zero}
 use Rattle.steps.proofs.Going.{goes, ends, idles}
 use Rattle.steps.proofs.run_steps.Goals as goal

@@ -1,4 +1,5 @@
--- `steps::run_steps` meets its contract. `Going` is the loop's invariant: the run from the entry is the steps done, and then a run of what is left. Assumes nothing.
+-- `steps::run_steps` meets its contract. `Going` is the loop's invariant: the run from the entry is the steps done, and then a run of what is left.
+-- Assumes nothing.
 use Prim.Native.Nat.{◌-◌}
 use Rattle.steps.proofs.Going.{Going}
 use Rattle.steps.proofs.run_steps.Given as goal

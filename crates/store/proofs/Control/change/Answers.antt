@@ -25,4 +25,5 @@ unfolding changed
 returns c =
     let a = c.args in
     let m = lent a.t0.now a.t1.now a.queue.now a.detector.now in
-    changes_by a.self m c.functions-f.ensures c.rooms-c.ensures c.fault-k.ensures c.if-k-ne0.false c.after.ensures a.x a.v (λ n s. (change n a.x a.v s).answer) (c.change.ensures a.detector.now)
+    changes_by a.self m c.functions-f.ensures c.rooms-c.ensures c.fault-k.ensures c.if-k-ne0.false c.after.ensures a.x a.v
+    (λ n s. (change n a.x a.v s).answer) (c.change.ensures a.detector.now)

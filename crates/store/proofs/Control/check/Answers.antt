@@ -20,7 +20,10 @@ is_sound-requires c =
     let a = c.args in
     let m = lent a.t0.now a.t1.now a.queue.now a.detector.now in
     let r = (own_fits_by a.self m c.functions-f.ensures c.rooms-c.ensures c.fault-k.ensures c.if-k-ne0.false).rooms in
-    record { tables_ready = tables_ready _ _ m (fits_by a.self m c.functions-f.ensures c.rooms-c.ensures c.fault-k.ensures c.if-k-ne0.false); ql_in_bounds = (omega arith, omega arith, omega arith, omega arith) }
+    record {
+      tables_ready = tables_ready _ _ m (fits_by a.self m c.functions-f.ensures c.rooms-c.ensures c.fault-k.ensures c.if-k-ne0.false);
+      ql_in_bounds = (omega arith, omega arith, omega arith, omega arith);
+    }
 
 pub returns-then-is_sound : goal.returns-then-is_sound
 unfolding checked
@@ -28,7 +31,8 @@ returns-then-is_sound c =
     let a = c.args in
     let m = lent a.t0.now a.t1.now a.queue.now a.detector.now in
     let b = tested_by a.self m c.functions-f.ensures c.is_sound.ensures in
-    checks_by a.self m (tested a.self m c.functions-f.ensures c.rooms-c.ensures c.fault-k.ensures) c.if-k-ne0.false (sym c.if-is_sound.true ∙ b) c.reply-then-is_sound.ensures
+    checks_by a.self m (tested a.self m c.functions-f.ensures c.rooms-c.ensures c.fault-k.ensures) c.if-k-ne0.false (sym c.if-is_sound.true ∙ b)
+    c.reply-then-is_sound.ensures
 
 pub returns : goal.returns
 unfolding checked
@@ -36,4 +40,5 @@ returns c =
     let a = c.args in
     let m = lent a.t0.now a.t1.now a.queue.now a.detector.now in
     let b = tested_by a.self m c.functions-f.ensures c.is_sound.ensures in
-    checks_by a.self m (tested a.self m c.functions-f.ensures c.rooms-c.ensures c.fault-k.ensures) c.if-k-ne0.false (sym c.if-is_sound.false ∙ b) c.reply-2.ensures
+    checks_by a.self m (tested a.self m c.functions-f.ensures c.rooms-c.ensures c.fault-k.ensures) c.if-k-ne0.false (sym c.if-is_sound.false ∙ b)
+    c.reply-2.ensures

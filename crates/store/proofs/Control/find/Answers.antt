@@ -27,4 +27,5 @@ unfolding found
 returns c =
     let a = c.args in
     let m = lent a.t0.now a.t1.now a.queue.now a.detector.now in
-    keeps_by a.self m c.functions-f.ensures c.rooms-c.ensures c.fault-k.ensures c.if-k-ne0.false c.after.ensures (λ n s. (find n a.x s).answer) (ap (inner m) (c.find.ensures a.detector.now))
+    keeps_by a.self m c.functions-f.ensures c.rooms-c.ensures c.fault-k.ensures c.if-k-ne0.false c.after.ensures (λ n s. (find n a.x s).answer)
+    (ap (inner m) (c.find.ensures a.detector.now))

@@ -13,12 +13,16 @@ pub returns-then-k-ne0 : goal.returns-then-k-ne0
 returns-then-k-ne0 c =
     let a = c.args in
     let m = lent a.t0.now a.t1.now a.queue.now a.detector.now in
+    let n : Control = new_record a.r a.queue_room a.detector_room a.step_limit a.a0 a.b0 a.a1 a.b1 in
     ap (outcome m) (c.reply.ensures ∙ ap (λ (z : Control). answered z (answer c.fault-k.result 0 0 0)) c.zeros.ensures)
-    ∙ open_refuses (new_record a.r a.queue_room a.detector_room a.step_limit a.a0 a.b0 a.a1 a.b1) m _ (new_within a.r a.queue_room a.detector_room a.step_limit a.a0 a.b0 a.a1 a.b1) (tested (new_record a.r a.queue_room a.detector_room a.step_limit a.a0 a.b0 a.a1 a.b1) m c.functions-f.ensures c.rooms-w.ensures c.fault-k.ensures) c.if-k-ne0.true
+    ∙ open_refuses n m _ (new_within a.r a.queue_room a.detector_room a.step_limit a.a0 a.b0 a.a1 a.b1)
+    (tested n m c.functions-f.ensures c.rooms-w.ensures c.fault-k.ensures) c.if-k-ne0.true
 
 pub returns : goal.returns
 returns c =
     let a = c.args in
     let m = lent a.t0.now a.t1.now a.queue.now a.detector.now in
+    let n : Control = new_record a.r a.queue_room a.detector_room a.step_limit a.a0 a.b0 a.a1 a.b1 in
     let z = c.clear_all.ensures in
-    open_accepts (new_record a.r a.queue_room a.detector_room a.step_limit a.a0 a.b0 a.a1 a.b1) a.t0.now a.t1.now a.queue.now a.detector.now (sym (tested (new_record a.r a.queue_room a.detector_room a.step_limit a.a0 a.b0 a.a1 a.b1) m c.functions-f.ensures c.rooms-w.ensures c.fault-k.ensures) ∙ c.if-k-ne0.false) z.t0_after z.t1_after z.queue_after z.detector_after c.reply-2.ensures
+    let none = sym (tested n m c.functions-f.ensures c.rooms-w.ensures c.fault-k.ensures) ∙ c.if-k-ne0.false in
+    open_accepts n a.t0.now a.t1.now a.queue.now a.detector.now none z.t0_after z.t1_after z.queue_after z.detector_after c.reply-2.ensures
