@@ -48,12 +48,12 @@ cell_written r i x v t size h =
     ap (λ ws. sets ws (2 * i) (x ∷ v ∷ [])) (sym (write_all cell_form cell_lawful r t size))
     ∙ sym (write_set cell_form cell_lawful (cells_in r t) i (record { key = x; value = v }) (omega (arith, length-read_many cell_form r t)))
 
-module _ (f : Functions) (c : Rooms) (x v : ℕ) (t0 t1 q d : List ℕ) {i : ℕ} (fit : FitIn f c (lent t0 t1 q d)) (none : c.queue_len ≡ 0)
+module _ (f : Functions) (c : Rooms) (x v : ℕ) (t0 t1 q d : List ℕ) {i : ℕ} (fit : FitIn f c (lent t0 t1 q d)) (none : c.lengths.queue ≡ 0)
     (home : i ≡ home0 f x) (free : get_or t0 (2 * i) 0 ≡ 0) where
   inside : i < f.r
   inside = rw home (home0_in_table f x fit.some)
 
-  waits_none : entries_in c.queue_len q ≡ []
+  waits_none : entries_in c.lengths.queue q ≡ []
   unfolding read_many
   waits_none = ap (λ k. read_many entry_form k q) none
 

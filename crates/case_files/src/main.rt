@@ -6,8 +6,7 @@ use std::{env, fs, io};
 // Runs the case program's session on each file that an argument names; the name stands before the lines.
 fn case_of(rt: &HostRuntime, path: &str) -> io::Result<()> {
     let mut out = rt.stdout();
-    out.write_all(path.as_bytes())?;
-    out.write_all(b"\n")?;
+    writeln!(out, "{path}")?;
     match fs::open(rt, path) {
         Ok(mut file) => session::run(&mut file, &mut out),
         Err(e) => {

@@ -16,7 +16,7 @@ lengths_fit f c n0 n1 nq nd = eqb n0 (2 * f.r) && eqb n1 (2 * f.r) && eqb nq (3 
 
 -- 3: "queue length above Q, or detector length above D"
 unfoldable pub within_rooms : Rooms → Bool
-within_rooms c = leb c.queue_len c.queue_room && leb c.detector_len c.detector_room
+within_rooms c = leb c.lengths.queue c.queue_room && leb c.lengths.detector c.detector_room
 
 -- the first of the three that applies, or 0
 unfoldable pub fault_of : Functions → Rooms → ℕ → ℕ → ℕ → ℕ → ℕ

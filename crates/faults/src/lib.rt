@@ -2,9 +2,11 @@
 #![tactic(auto)]
 
 ghost use Rattle.std.specs.Prelude.{◌≡◌, true};
+ghost use Rattle.refusals.specs.Numbers.{number_of_test};
 ghost use Rattle.faults.specs.Faults.{numbers_in_range, lengths_fit, fault_of};
 
 use numbers::{Functions, Rooms};
+use refusals::Refusal;
 
 // Whether the record's numbers are in range.
 fn in_range(f: Functions, c: Rooms) -> bool
@@ -31,19 +33,26 @@ fn sized(f: Functions, c: Rooms, n0: usize, n1: usize, nq: usize, nd: usize) -> 
     (n0 == 2 * r) & (n1 == 2 * r) & (nq == 3 * q) & (nd == 2 * d)
 }
 
-// Refusal 1, 2 or 3 for the record and the buffers' lengths, or 0.
-pub fn fault(f: Functions, c: Rooms, n0: usize, n1: usize, nq: usize, nd: usize) -> u32
-    ensures { result ≡ fault_of f c n0 n1 nq nd }
+// Refusal 1, 2 or 3 for the record and the buffers' lengths.
+pub fn fault(
+    f: Functions,
+    c: Rooms,
+    n0: usize,
+    n1: usize,
+    nq: usize,
+    nd: usize,
+) -> Result<(), Refusal>
+    ensures { number_of_test result ≡ fault_of f c n0 n1 nq nd }
 {
     if !in_range(f, c) {
-        return 1;
+        return Err(Refusal::NumberOutOfRange);
     }
     if !sized(f, c, n0, n1, nq, nd) {
-        return 2;
+        return Err(Refusal::BufferLength);
     }
-    if (c.queue_len <= c.queue_room) & (c.detector_len <= c.detector_room) {
-        0
+    if (c.lengths.queue <= c.queue_room) & (c.lengths.detector <= c.detector_room) {
+        Ok(())
     } else {
-        3
+        Err(Refusal::LengthAboveRoom)
     }
 }

@@ -9,5 +9,5 @@ use Rattle.finding.specs.Inner.{FitIn}
 pub tables_ready : (f : Functions) (c : Rooms) (m : Lent) → FitIn f c m → TablesReady f.r m.table0 m.table1
 tables_ready f c m fit = record { some = fit.some; small = fit.small; first = fit.first; second = fit.second }
 
-pub queue_bounds : (f : Functions) (c : Rooms) (m : Lent) → FitIn f c m → (3 * c.queue_len ≤ length m.queue) × (length m.queue ≤ 192)
+pub queue_bounds : (f : Functions) (c : Rooms) (m : Lent) → FitIn f c m → (3 * c.lengths.queue ≤ length m.queue) × (length m.queue ≤ 192)
 queue_bounds f c m fit = let r = fit.rooms in (omega arith, omega arith)

@@ -1,7 +1,7 @@
 -- From what the code reads in the words to the place that the rules' search answers, and from a place to what find answers. Assumes nothing.
-use Rattle.std.proofs.Common.{◌≡◌, ℕ, ◌+◌, ◌*◌, ◌<◌, ◌≤◌, Bool, true, false, not, ◌≢◌, List, get_or}
-use Rattle.std.proofs.Common.{sym, refl, ap, ◌∙◌, subst, get_or-drop, le-ltb, lt-ltb, eq-eqb, ne_eqb}
-use mathlib.Core.Option.{Option, none, some}
+use Rattle.std.proofs.Common.{◌≡◌, Option, Some, None, ℕ, ◌+◌, ◌*◌, ◌<◌, Bool, true, false, not, ◌≢◌, List, get_or}
+use Rattle.std.proofs.Common.{sym, refl, ap, ◌∙◌, subst, get_or-drop, eq-eqb, ne_eqb}
+use mathlib.Core.Option.{Option as RulesOption, none, some}
 use borrow.Author.Tests.{not-true, not-false}
 use Rattle.numbers.specs.declared.Functions.{Functions}
 use Rattle.numbers.specs.Ranges.{good_key}
@@ -40,8 +40,8 @@ module _ (n : Numbers) (x : ℕ) (s : Store) where
   unfolding search
   search_queue_lem ne ne' = simp (ne_eqb _ _ ne, ne_eqb _ _ ne')
 
-abbrev seen : Place → ℕ → ℕ → Seen
-seen p number value = record { place = p; number = number; value = value }
+abbrev seen : Place → Option ℕ → Seen
+seen p value = record { place = p; value = value }
 
 -- what the code reads: i and j are the homes of x
 module _ (f : Functions) (c : Rooms) (x : ℕ) (m : Lent) (ready : TablesReady f.r m.table0 m.table1) where
@@ -69,13 +69,13 @@ module _ (f : Functions) (c : Rooms) (x : ℕ) (m : Lent) (ready : TablesReady f
     abbrev key1 : ℕ
     key1 = get_or m.table1 (2 * j) 0
 
-    pub sees_first : key0 ≡ x → Sees f c x m (seen (Table0 i) 0 (get_or m.table0 (2 * i + 1) 0))
+    pub sees_first : key0 ≡ x → Sees f c x m (seen (Table0 i) (Some (get_or m.table0 (2 * i + 1) 0)))
     sees_first e = record {
       at = record { is = rw home (sym (search-first (numbers_of f c) x (store_of f c m) (key-first home ∙ e))); within = first_in home };
       says = refl;
     }
 
-    pub sees_second : is_neither key0 key1 x ≡ false → key0 ≢ x → Sees f c x m (seen (Table1 j) 0 (get_or m.table1 (2 * j + 1) 0))
+    pub sees_second : is_neither key0 key1 x ≡ false → key0 ≢ x → Sees f c x m (seen (Table1 j) (Some (get_or m.table1 (2 * j + 1) 0)))
     sees_second either not_first = record {
       at = record {
         is = rw home' (
@@ -98,21 +98,26 @@ module _ (f : Functions) (c : Rooms) (x : ℕ) (m : Lent) (ready : TablesReady f
         }
 
 -- the queue alone: k is the place that the code found in it
-module _ (c : Rooms) (x : ℕ) (q : List ℕ) {k : ℕ} (place : FirstPlace x (entries_in c.queue_len q) c.queue_len k) where
-  pub sees_waiting : k < c.queue_len → SeesInQueue c x q (seen (Waiting k) 0 (get_or q (3 * k + 1) 0))
-  sees_waiting l = record { is = simp (lt-ltb _ _ l) at place.place; within = λ f. l; says = λ t0 t1 d. refl }
+module _ (c : Rooms) (x : ℕ) (q : List ℕ) where
+  pub sees_waiting : {k : ℕ} → FirstPlace x (entries_in c.lengths.queue q) c.lengths.queue (Some k) → SeesInQueue c x q (seen (Waiting k) (Some (get_or q (3 * k + 1) 0)))
+  sees_waiting place = record { is = place.place; within = λ f. place.within; says = λ t0 t1 d. refl }
 
-  pub sees_none : c.queue_len ≤ k → SeesInQueue c x q (seen Nowhere 7 0)
-  sees_none l = record { is = simp (le-ltb _ _ l) at place.place; within = λ f. tt; says = λ t0 t1 d. refl }
+  pub sees_none : FirstPlace x (entries_in c.lengths.queue q) c.lengths.queue None → SeesInQueue c x q (seen Nowhere None)
+  sees_none place = record { is = place.place; within = λ f. tt; says = λ t0 t1 d. refl }
 
-value_in_lem : (f : Functions) (c : Rooms) (m : Lent) (p : Place) → IsInside f c p → value_at (place_of p) (store_of f c m) ≡ value_in m p
-value_in_lem f c m (Table0 i) h = ap (λ (e : Cell). some e.value) (cell_read f.r i m.table0 h)
-value_in_lem f c m (Table1 i) h = ap (λ (e : Cell). some e.value) (cell_read f.r i m.table1 h)
-value_in_lem f c m (Waiting j) h = ap (λ (e : Entry). some e.value) (read_at entry_form c.queue_len j m.queue no_entry h) ∙ simp get_or-drop
+-- an option of the rules as one of the code
+abbrev pub as_code : RulesOption ℕ → Option ℕ
+as_code (some v) = Some v
+as_code none = None
+
+value_in_lem : (f : Functions) (c : Rooms) (m : Lent) (p : Place) → IsInside f c p → as_code (value_at (place_of p) (store_of f c m)) ≡ value_in m p
+value_in_lem f c m (Table0 i) h = ap (λ (e : Cell). Some e.value) (cell_read f.r i m.table0 h)
+value_in_lem f c m (Table1 i) h = ap (λ (e : Cell). Some e.value) (cell_read f.r i m.table1 h)
+value_in_lem f c m (Waiting j) h = ap (λ (e : Entry). Some e.value) (read_at entry_form c.lengths.queue j m.queue no_entry h) ∙ simp get_or-drop
 value_in_lem f c m Nowhere h = refl
 
 module _ (n : Numbers) (x : ℕ) (s : Store) where
-  find_answers : (w : Option ℕ) → good_key x ≡ true → lookup n x s ≡ w → (find n x s).answer ≡ reply_of w
+  find_answers : (w : RulesOption ℕ) → good_key x ≡ true → lookup n x s ≡ w → (find n x s).answer ≡ reply_of (as_code w)
   unfolding find
   find_answers (some v) g e = simp (g, e)
   find_answers none g e = simp (g, e)
@@ -131,10 +136,11 @@ module _ (f : Functions) (c : Rooms) (x : ℕ) (m : Lent) {k : Bool} (test : k �
   found_bad bad = ap (answered c) (sym (find_refuses (numbers_of f c) x (store_of f c m) (sym test ∙ not-true k bad)))
 
 module _ {f : Functions} {c : Rooms} {x : ℕ} {m : Lent} {k : Bool} (test : k ≡ good_key x) (good : not k ≡ false) where
-  pub held : {p : Place} → Located f c x m p → lookup (numbers_of f c) x (store_of f c m) ≡ value_in m p
+  -- the value that lookup finds is the one that the search saw
+  pub held : {s : Seen} → Sees f c x m s → as_code (lookup (numbers_of f c) x (store_of f c m)) ≡ s.value
   unfolding lookup
-  held {p} at = rw (sym at.is) (value_in_lem f c m p at.within)
+  held {s} sees = rw (sym sees.at.is) (value_in_lem f c m s.place sees.at.within) ∙ sym sees.says
 
-  pub found_at : {s : Seen} → Sees f c x m s → answered c (answer s.number s.value 0 0) ≡ answered c (find (numbers_of f c) x (store_of f c m)).answer
+  pub found_at : {s : Seen} → Sees f c x m s → answered c (reply_of s.value) ≡ answered c (find (numbers_of f c) x (store_of f c m)).answer
   found_at {s} sees =
-      ap (answered c) (sees.says ∙ sym (find_answers (numbers_of f c) x (store_of f c m) (value_in m s.place) (sym test ∙ not-false k good) (held sees.at)))
+      ap (answered c) (ap reply_of (sym (held sees)) ∙ sym (find_answers (numbers_of f c) x (store_of f c m) _ (sym test ∙ not-false k good) refl))

@@ -1,6 +1,5 @@
 -- What the inner calls ask and give. A record's numbers come as two structs: `Functions` for the homes, `Rooms` for all others. Assumes nothing.
-use Rattle.std.specs.Prelude.{◌≡◌, ℕ, ◌+◌, ◌*◌, ◌/◌, ◌%◌, ◌<◌, ◌≤◌, Bool, cond, not, ◌&&◌, List, length, ◌==◌, slice_index}
-use Rattle.std.proofs.Math.Option.{Option, none, some}
+use Rattle.std.specs.Prelude.{◌≡◌, ℕ, ◌+◌, ◌*◌, ◌/◌, ◌%◌, ◌<◌, ◌≤◌, Bool, cond, not, ◌&&◌, List, length, ◌==◌, slice_index, Option, Some, None, Result, Ok, Err}
 use Rattle.numbers.specs.declared.Functions.{Functions}
 use Rattle.rules.specs.Store.{table_0, table_1, Store, Numbers}
 use Rattle.rules.specs.Search.{Place as RulesPlace, in_table, waiting_at, nowhere, search_queue, search}
@@ -8,6 +7,8 @@ use Rattle.rules.specs.Calls.{Answer as RulesAnswer, answer, Outcome as RulesOut
 use Rattle.rules.specs.Keeps.{is_accepted}
 use Rattle.layout.specs.Memory.{Lent, lent, words_in, entries_in, homes_of, store_in}
 use Rattle.numbers.specs.declared.Rooms.{Rooms}
+use Rattle.refusals.specs.declared.Refusal.{Refusal}
+use Rattle.refusals.specs.Numbers.{number_of, value_of}
 use Rattle.finding.specs.declared.Done.{Done}
 use Rattle.finding.specs.declared.Place.{Place}
 use Rattle.finding.specs.declared.Seen.{Seen}
@@ -19,7 +20,7 @@ numbers_of f c = record { r = f.r; Q = c.queue_room; D = c.detector_room; L = c.
 
 -- the store that a record and words stand for
 abbrev pub store_of : Functions → Rooms → Lent → Store
-store_of f c m = store_in f.r c.queue_len c.detector_len m.table0 m.table1 m.queue m.detector
+store_of f c m = store_in f.r c.lengths.queue c.lengths.detector m.table0 m.table1 m.queue m.detector
 
 -- the words of a store
 abbrev pub words_of : Rooms → Store → Lent
@@ -27,7 +28,7 @@ words_of c s = words_in (3 * c.queue_room) (2 * c.detector_room) s
 
 -- other lengths
 abbrev pub with_lens : Rooms → ℕ → ℕ → Rooms
-with_lens c ql dl = record { queue_room = c.queue_room; detector_room = c.detector_room; step_limit = c.step_limit; queue_len = ql; detector_len = dl }
+with_lens c ql dl = record { queue_room = c.queue_room; step_limit = c.step_limit; lengths = record { detector = dl; queue = ql }; detector_room = c.detector_room }
 
 -- the lengths of a store
 abbrev pub rooms_of : Rooms → Store → Rooms
@@ -46,12 +47,21 @@ abbrev pub tells : (ql dl number value steps moves : ℕ) → Told
 tells ql dl number value steps moves = record { queue_len = ql; detector_len = dl; number = number; value = value; steps = steps; moves = moves }
 
 -- the code keeps both lengths in one word, the detector's in the upper half
-unfoldable pub told_by : Done → Told
-told_by a = tells (a.lengths % 4294967296) (a.lengths / 4294967296) a.number a.value a.steps a.moves
+unfoldable pub told_under : ℕ → Done → Told
+told_under number a = tells (a.lengths % 4294967296) (a.lengths / 4294967296) number a.value a.steps a.moves
+
+-- "Accepted is 0"
+abbrev pub told_of : Done → Told
+told_of a = told_under 0 a
+
+-- a refusal gives back the lengths that it received, and no steps
+abbrev pub told_by : Rooms → Result Done Refusal → Told
+told_by c (Ok done) = told_of done
+told_by c (Err refusal) = tells c.lengths.queue c.lengths.detector (number_of refusal) (value_of refusal) 0 0
 
 -- an answer of the rules, with the lengths
 abbrev pub answered : Rooms → RulesAnswer → Told
-answered c a = tells c.queue_len c.detector_len a.number a.value a.steps a.moves
+answered c a = tells c.lengths.queue c.lengths.detector a.number a.value a.steps a.moves
 
 -- what a call leaves in the buffers, and what it gives back
 pub record Outcome : Type 0 where
@@ -75,8 +85,8 @@ pub record RoomsFit (c : Rooms) (nq nd : ℕ) : Type 0 where
   pub detector_small : c.detector_room ≤ 128
   pub queue : nq ≡ 3 * c.queue_room
   pub detector : nd ≡ 2 * c.detector_room
-  pub queue_in : c.queue_len ≤ c.queue_room
-  pub detector_in : c.detector_len ≤ c.detector_room
+  pub queue_in : c.lengths.queue ≤ c.queue_room
+  pub detector_in : c.lengths.detector ≤ c.detector_room
 
 -- what an accepted record and accepted lengths say
 pub record Fit (f : Functions) (c : Rooms) (n0 n1 nq nd : ℕ) : Type 0 where
@@ -102,7 +112,7 @@ place_of Nowhere = nowhere
 abbrev pub IsInside : Functions → Rooms → Place → Type 0
 IsInside f c (Table0 i) = i < f.r
 IsInside f c (Table1 i) = i < f.r
-IsInside f c (Waiting j) = j < c.queue_len
+IsInside f c (Waiting j) = j < c.lengths.queue
 IsInside f c Nowhere = Unit {0}
 
 -- the place that the rules' search answers
@@ -112,27 +122,27 @@ pub record Located (f : Functions) (c : Rooms) (x : ℕ) (m : Lent) (p : Place) 
 
 -- the word that holds the value at a place of the code
 abbrev pub value_in : Lent → Place → Option ℕ
-value_in m (Table0 i) = some (slice_index m.table0 (2 * i + 1))
-value_in m (Table1 i) = some (slice_index m.table1 (2 * i + 1))
-value_in m (Waiting j) = some (slice_index m.queue (3 * j + 1))
-value_in m Nowhere = none
+value_in m (Table0 i) = Some (slice_index m.table0 (2 * i + 1))
+value_in m (Table1 i) = Some (slice_index m.table1 (2 * i + 1))
+value_in m (Waiting j) = Some (slice_index m.queue (3 * j + 1))
+value_in m Nowhere = None
 
 -- accepted with the value found, or refusal 7
 abbrev pub reply_of : Option ℕ → RulesAnswer
-reply_of (some v) = answer 0 v 0 0
-reply_of none = answer 7 0 0 0
+reply_of (Some v) = answer 0 v 0 0
+reply_of None = answer 7 0 0 0
 
 -- neither key is x
 abbrev pub is_neither : (k0 k1 x : ℕ) → Bool
 is_neither k0 k1 x = not (k0 == x) && not (k1 == x)
 
--- what the code's search gives: that place, and find's answer to it
+-- what the code's search gives: that place, and the value there
 pub record Sees (f : Functions) (c : Rooms) (x : ℕ) (m : Lent) (s : Seen) : Type 0 where
   pub at : Located f c x m s.place
-  pub says : answer s.number s.value 0 0 ≡ reply_of (value_in m s.place)
+  pub says : s.value ≡ value_in m s.place
 
 -- the same of the search through the queue, whatever the tables and the detector hold
 pub record SeesInQueue (c : Rooms) (x : ℕ) (q : List ℕ) (s : Seen) : Type 0 where
-  pub is : place_of s.place ≡ search_queue 0 x (entries_in c.queue_len q)
+  pub is : place_of s.place ≡ search_queue 0 x (entries_in c.lengths.queue q)
   pub within : (f : Functions) → IsInside f c s.place
-  pub says : (t0 t1 d : List ℕ) → answer s.number s.value 0 0 ≡ reply_of (value_in (lent t0 t1 q d) s.place)
+  pub says : (t0 t1 d : List ℕ) → s.value ≡ value_in (lent t0 t1 q d) s.place

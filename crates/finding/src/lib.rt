@@ -2,25 +2,26 @@
 #![tactic(auto)]
 
 ghost use Rattle.std.specs.Prelude.{◌≡◌, ℕ, ◌*◌, ◌≤◌, List, length};
-ghost use Rattle.rules.specs.Calls.{answer, find};
-ghost use Rattle.layout.specs.Memory.{lent};
+ghost use Rattle.rules.specs.Calls.{find};
+ghost use Rattle.layout.specs.Memory.{lent, words};
 ghost use Rattle.steps.specs.Shape.{TablesReady};
-ghost use Rattle.finding.specs.Inner.{numbers_of, store_of, told_by, tells, answered, is_neither, Sees, SeesInQueue};
+ghost use Rattle.finding.specs.Inner.{numbers_of, store_of, tells, told_of, told_by, answered, is_neither, Sees, SeesInQueue};
 
-use numbers::{Functions, Rooms};
+use layout::Buffers;
+use numbers::{Functions, Lengths, Rooms, Table};
+use refusals::Refusal;
 
-// What a call gives back: the lengths, the detector's in the upper half, and its answer. The record goes on to the next call, which reads both lengths at once: two
-// halves, written one after the other, would hold it up.
+// What an accepted call gives back: the lengths, the detector's in the upper half, and the fields of its answer. The record goes on to the next call, which reads
+// both lengths at once: two halves, written one after the other, would hold it up.
 #[derive(Clone, Copy)]
 pub struct Done {
     pub lengths: u64,
-    pub number: u32,
     pub value: u32,
     pub steps: u32,
     pub moves: u32,
 }
 
-// Where a key lies: a cell of table 0 or 1, a queue place counted from the front, or nowhere.
+// Where a key lies: a cell of table 0 or 1, a queue place counted from the front, or nowhere. (The project's page of rules asks for an enum of these four.)
 #[derive(Clone, Copy)]
 pub enum Place {
     Table0(usize),
@@ -29,76 +30,62 @@ pub enum Place {
     Nowhere,
 }
 
-// What a search saw: the place, and find's answer to it: 0 with the value there, or 7.
+// What a search saw: the place, and the value there.
 #[derive(Clone, Copy)]
 pub struct Seen {
     pub place: Place,
-    pub number: u32,
-    pub value: u32,
+    pub value: Option<u32>,
 }
 
 impl Done {
     // All that a call gives back.
-    pub fn of(
-        queue_len: u32,
-        detector_len: u32,
-        number: u32,
-        value: u32,
-        steps: u32,
-        moves: u32,
-    ) -> Done
-        ensures { told_by result ≡ tells queue_len detector_len number value steps moves }
+    pub fn of(lengths: Lengths, value: u32, steps: u32, moves: u32) -> Done
+        ensures { told_of result ≡ tells lengths.queue lengths.detector 0 value steps moves }
     {
         Done {
-            lengths: (queue_len as u64) + (detector_len as u64) * 4294967296,
-            number,
+            lengths: (lengths.queue as u64) + (lengths.detector as u64) * 4294967296,
             value,
             steps,
             moves,
         }
     }
 
+    // Accepted without steps.
+    pub fn at_rest(lengths: Lengths, value: u32) -> Done
+        ensures { told_of result ≡ tells lengths.queue lengths.detector 0 value 0 0 }
+    {
+        Done::of(lengths, value, 0, 0)
+    }
+
     // The queue's length.
     pub fn queue_len(self) -> u32
-        ensures { result ≡ (told_by self).queue_len }
+        ensures { result ≡ (told_of self).queue_len }
     {
         (self.lengths % 4294967296) as u32
     }
 
     // The detector's length.
     pub fn detector_len(self) -> u32
-        ensures { result ≡ (told_by self).detector_len }
+        ensures { result ≡ (told_of self).detector_len }
     {
         (self.lengths / 4294967296) as u32
     }
 }
 
-// An answer without steps; the lengths stay.
-pub fn reply(c: Rooms, number: u32, value: u32) -> Done
-    ensures { told_by result ≡ answered c (answer number value 0 0) }
-{
-    Done::of(c.queue_len, c.detector_len, number, value, 0, 0)
-}
-
 // Where key x, which is in no cell, lies: the queue from the front.
 fn search_queue(c: Rooms, x: u32, queue: &[u32]) -> Seen
-    requires { (3 * c.queue_len ≤ length queue.now) × (length queue.now ≤ 192) }
+    requires { (3 * c.lengths.queue ≤ length queue.now) × (length queue.now ≤ 192) }
     ensures { SeesInQueue c x queue.now result }
 {
-    let n = c.queue_len as usize;
-    let k = layout::place_of(queue, n, x);
-    if k < n {
-        Seen {
+    match layout::place_of(queue, c.lengths.queue as usize, x) {
+        Some(k) => Seen {
             place: Place::Waiting(k),
-            number: 0,
-            value: queue[3 * k + 1],
-        }
-    } else {
-        Seen {
+            value: Some(queue[3 * k + 1]),
+        },
+        None => Seen {
             place: Place::Nowhere,
-            number: 7,
-            value: 0,
-        }
+            value: None,
+        },
     }
 }
 
@@ -115,11 +102,11 @@ fn neither(key0: u32, key1: u32, x: u32) -> bool
 // picked and not guessed.
 pub fn search(f: Functions, c: Rooms, x: u32, t0: &[u32], t1: &[u32], queue: &[u32]) -> Seen
     requires tables_ready { TablesReady f.r t0.now t1.now }
-    requires queue_len_in_bounds { (3 * c.queue_len ≤ length queue.now) × (length queue.now ≤ 192) }
+    requires queue_len_in_bounds { (3 * c.lengths.queue ≤ length queue.now) × (length queue.now ≤ 192) }
     ensures { (d : List ℕ) → Sees f c x (lent t0.now t1.now queue.now d) result }
 {
-    let i = f.in_table0(x) as usize;
-    let j = f.in_table1(x) as usize;
+    let i = f.home_in(Table::Zero, x) as usize;
+    let j = f.home_in(Table::One, x) as usize;
     let key0 = t0[2 * i];
     let value0 = t0[2 * i + 1];
     let key1 = t1[2 * j];
@@ -130,27 +117,43 @@ pub fn search(f: Functions, c: Rooms, x: u32, t0: &[u32], t1: &[u32], queue: &[u
     if key0 == x {
         Seen {
             place: Place::Table0(i),
-            number: 0,
-            value: value0,
+            value: Some(value0),
         }
     } else {
         Seen {
             place: Place::Table1(j),
-            number: 0,
-            value: value1,
+            value: Some(value1),
         }
     }
 }
 
-// Find: the answer that the search saw.
-pub fn find(f: Functions, c: Rooms, x: u32, t0: &[u32], t1: &[u32], queue: &[u32]) -> Done
+// The same in lent buffers.
+pub fn search_in(f: Functions, c: Rooms, x: u32, m: &Buffers) -> Seen
+    requires tables_ready { TablesReady f.r m.now.t0.now m.now.t1.now }
+    requires queue_len_in_bounds { (3 * c.lengths.queue ≤ length m.now.queue.now) × (length m.now.queue.now ≤ 192) }
+    ensures { Sees f c x (words m.now) result }
+{
+    search(f, c, x, &*m.t0, &*m.t1, &*m.queue)
+}
+
+// Find: the value that the search saw.
+pub fn find(
+    f: Functions,
+    c: Rooms,
+    x: u32,
+    t0: &[u32],
+    t1: &[u32],
+    queue: &[u32],
+) -> Result<Done, Refusal>
     requires tables_ready { TablesReady f.r t0.now t1.now }
-    requires queue_len_in_bounds { (3 * c.queue_len ≤ length queue.now) × (length queue.now ≤ 192) }
-    ensures { (d : List ℕ) → told_by result ≡ answered c (find (numbers_of f c) x (store_of f c (lent t0.now t1.now queue.now d))).answer }
+    requires queue_len_in_bounds { (3 * c.lengths.queue ≤ length queue.now) × (length queue.now ≤ 192) }
+    ensures { (d : List ℕ) → told_by c result ≡ answered c (find (numbers_of f c) x (store_of f c (lent t0.now t1.now queue.now d))).answer }
 {
     if !numbers::is_key(x) {
-        return reply(c, 4, 0);
+        return Err(Refusal::NotAKey);
     }
-    let s = search(f, c, x, t0, t1, queue);
-    reply(c, s.number, s.value)
+    match search(f, c, x, t0, t1, queue).value {
+        Some(value) => Ok(Done::at_rest(c.lengths, value)),
+        None => Err(Refusal::NotFound),
+    }
 }

@@ -2,108 +2,119 @@
 #![tactic(auto)]
 
 ghost use Rattle.std.specs.Prelude.{◌≡◌, ◌||◌, leb, ◌+◌, ◌*◌, ◌≤◌, ◌<◌, length};
-ghost use Rattle.rules.specs.Store.{meant};
 ghost use Rattle.rules.specs.Step.{is_marked};
 ghost use Rattle.layout.specs.Forms.{pair_form, read_many};
+ghost use Rattle.layout.specs.Memory.{rules_table};
 ghost use Rattle.kinds.specs.Shape.{Ready, Landed, Aside, Swapped};
+
+use numbers::{Lengths, Table};
+
+// The kinds, in the order in which they are tried.
+#[derive(Clone, Copy)]
+pub enum Kind {
+    Lands,
+    SetsAside,
+    Moves,
+}
 
 // What a step was, and the lengths that it leaves.
 #[derive(Clone, Copy)]
 pub struct Turn {
-    pub kind: u32,
-    pub queue_len: u32,
-    pub detector_len: u32,
+    pub kind: Kind,
+    pub lengths: Lengths,
+}
+
+// The front entry, by its three words.
+#[derive(Clone, Copy)]
+pub struct Front {
+    pub key: u32,
+    pub value: u32,
+    pub side: u32,
 }
 
 // Kind 1: the cell takes the front entry, which is dropped, and the detector is emptied.
 pub fn land(
     i: usize,
-    y: u32,
-    v: u32,
-    ql: u32,
-    dl: u32,
+    front: Front,
+    lengths: Lengths,
     t: &mut [u32],
     queue: &mut [u32],
     detector: &mut [u32],
 ) -> Turn
-    requires ql_nonzero { 0 < ql }
-    requires ready { Ready ql dl queue.old detector.old }
+    requires some_wait { 0 < lengths.queue }
+    requires ready { Ready lengths.queue lengths.detector queue.old detector.old }
     requires i_in_bounds { 2 * i + 1 < length t.old }
-    ensures { Landed i y v ql t.old queue.old detector.old t.new queue.new detector.new result }
+    ensures { Landed i front.key front.value lengths.queue t.old queue.old detector.old t.new queue.new detector.new result }
 {
-    words::put_two(t, 2 * i, y, v);
-    words::close_gap(queue, 0, 3, 3 * (ql as usize));
-    words::clear(detector, 0, 2 * (dl as usize));
+    words::put(t, 2 * i, [front.key, front.value]);
+    words::close_gap(queue, 0, 3, 3 * (lengths.queue as usize));
+    words::clear(detector, 0, 2 * (lengths.detector as usize));
     Turn {
-        kind: 1,
-        queue_len: ql - 1,
-        detector_len: 0,
+        kind: Kind::Lands,
+        lengths: Lengths {
+            queue: lengths.queue - 1,
+            detector: 0,
+        },
     }
 }
 
 // Kind 2: the front entry goes to the back, and the detector is emptied.
-pub fn set_aside(
-    y: u32,
-    v: u32,
-    b: u32,
-    ql: u32,
-    dl: u32,
-    queue: &mut [u32],
-    detector: &mut [u32],
-) -> Turn
-    requires ql_nonzero { 0 < ql }
-    requires ready { Ready ql dl queue.old detector.old }
-    ensures { Aside y v b ql queue.old detector.old queue.new detector.new result }
+pub fn set_aside(front: Front, lengths: Lengths, queue: &mut [u32], detector: &mut [u32]) -> Turn
+    requires some_wait { 0 < lengths.queue }
+    requires ready { Ready lengths.queue lengths.detector queue.old detector.old }
+    ensures { Aside front.key front.value front.side lengths.queue queue.old detector.old queue.new detector.new result }
 {
-    let end = 3 * (ql as usize);
+    let end = 3 * (lengths.queue as usize);
     words::close_gap(queue, 0, 3, end);
-    words::put_three(queue, end - 3, y, v, b);
-    words::clear(detector, 0, 2 * (dl as usize));
+    words::put(queue, end - 3, [front.key, front.value, front.side]);
+    words::clear(detector, 0, 2 * (lengths.detector as usize));
     Turn {
-        kind: 2,
-        queue_len: ql,
-        detector_len: 0,
+        kind: Kind::SetsAside,
+        lengths: Lengths {
+            queue: lengths.queue,
+            detector: 0,
+        },
     }
 }
 
 // Kind 3: the pair is marked, the cell takes the front entry, and what it held is the front entry for the other table.
 pub fn swap(
     i: usize,
-    y: u32,
-    v: u32,
-    b: u32,
-    ql: u32,
-    dl: u32,
+    front: Front,
+    lengths: Lengths,
     t: &mut [u32],
     queue: &mut [u32],
     detector: &mut [u32],
 ) -> Turn
-    requires b_bound { b ≤ 1 }
-    requires ql_nonzero { 0 < ql }
-    requires dl_in_bounds { 2 * dl + 1 < length detector.old }
-    requires ready { Ready ql dl queue.old detector.old }
+    requires side_bound { front.side ≤ 1 }
+    requires some_wait { 0 < lengths.queue }
+    requires detector_in_bounds { 2 * lengths.detector + 1 < length detector.old }
+    requires ready { Ready lengths.queue lengths.detector queue.old detector.old }
     requires i_in_bounds { 2 * i + 1 < length t.old }
-    ensures { Swapped i y v b ql dl t.old queue.old detector.old t.new queue.new detector.new result }
+    ensures { Swapped i front.key front.value front.side lengths.queue lengths.detector t.old queue.old detector.old t.new queue.new detector.new result }
 {
     let k = t[2 * i];
     let u = t[2 * i + 1];
-    words::put_two(t, 2 * i, y, v);
-    words::put_three(queue, 0, k, u, 1 - b);
-    words::put_two(detector, 2 * (dl as usize), y, b);
+    words::put(t, 2 * i, [front.key, front.value]);
+    words::put(queue, 0, [k, u, 1 - front.side]);
+    words::put(
+        detector,
+        2 * (lengths.detector as usize),
+        [front.key, front.side],
+    );
     Turn {
-        kind: 3,
-        queue_len: ql,
-        detector_len: dl + 1,
+        kind: Kind::Moves,
+        lengths: Lengths {
+            queue: lengths.queue,
+            detector: lengths.detector + 1,
+        },
     }
 }
 
 // Whether the front entry is to be set aside: its pair is marked, or the detector is full.
-pub fn must_stop(ws: &[u32], n: usize, room: usize, y: u32, b: u32) -> bool
+pub fn must_stop(ws: &[u32], n: usize, room: usize, y: u32, table: Table) -> bool
     requires { 2 * n ≤ length ws.now }
-    ensures { result ≡ (is_marked y (meant b) (read_many pair_form n ws.now) || leb room n) }
+    ensures { result ≡ (is_marked y (rules_table table) (read_many pair_form n ws.now) || leb room n) }
 {
-    if layout::is_marked(ws, n, y, b) {
-        return true;
-    }
-    room <= n
+    layout::is_marked(ws, n, y, table) || (room <= n)
 }

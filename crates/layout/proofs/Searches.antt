@@ -1,29 +1,19 @@
 -- Laws of the searches: a side compared, and a search through pairs or entries that goes on from place i. Assumes nothing.
 use Prim.Native.Nat.{ℕ, ◌+◌, ◌-◌, ◌*◌, ◌≤◌, ◌<◌}
-use mathlib.Core.Path.{◌≡◌, refl, ap, ◌∙◌}
-use mathlib.Core.Bool.{Bool, true, false, not, cond, ◌&&◌, ◌||◌}
+use mathlib.Core.Path.{◌≡◌, ap, ◌∙◌}
+use mathlib.Core.Bool.{Bool, true, false, cond, ◌&&◌, ◌||◌}
 use mathlib.Core.List.{List}
-use native.Mathlib.Nat.{add-zero, le_refl}
+use native.Mathlib.Nat.{add-zero}
 use native.Mathlib.Numerals.{add-one}
-use borrow.Author.Tests.{eq-eqb, ne_eqb, lt-ltb, le-ltb}
+use borrow.Author.Tests.{eq-eqb, ne_eqb}
 use lib.Dec.{eqb}
 use lib.ListN.{get_or, drop}
 use lib.Seq.{get_or-drop}
-use Rattle.rules.specs.Store.{table_0, table_1, same_table, meant, Entry, Pair}
+use Rattle.rules.specs.Store.{Table, same_table, meant, Entry, Pair}
 use Rattle.rules.specs.Step.{is_marked}
-use Rattle.rules.specs.Search.{waiting_at, search_queue}
+use Rattle.rules.specs.Search.{waiting_at, nowhere, search_queue}
 use Rattle.layout.specs.Forms.{entry_form, pair_form, read_many}
-use Rattle.layout.specs.Places.{place_among}
 use Rattle.layout.proofs.Forms.{read_from, read_none}
-
--- table 0, and table 1, compared with the table that a tested side means
-pub same_0 : (t : Bool) → same_table table_0 (cond t table_0 table_1) ≡ t
-same_0 true = refl
-same_0 false = refl
-
-pub same_1 : (t : Bool) → same_table table_1 (cond t table_0 table_1) ≡ not t
-same_1 true = refl
-same_1 false = refl
 
 -- the pairs, and the entries, from place i on
 abbrev pub pairs_from : List ℕ → ℕ → ℕ → List Pair
@@ -33,23 +23,23 @@ abbrev pub entries_from : List ℕ → ℕ → ℕ → List Entry
 entries_from ws n i = read_many entry_form (n - i) (drop (3 * i) ws)
 
 -- the test of the pair at place i
-abbrev pub pair_test : ℕ → ℕ → List ℕ → ℕ → Bool
-pair_test y b ws i = eqb (get_or ws (2 * i) 0) y && same_table (meant (get_or ws (2 * i + 1) 0)) (meant b)
+abbrev pub pair_test : ℕ → Table → List ℕ → ℕ → Bool
+pair_test y t ws i = eqb (get_or ws (2 * i) 0) y && same_table (meant (get_or ws (2 * i + 1) 0)) t
 
-module _ (y b : ℕ) (ws : List ℕ) (n i : ℕ) where
-  marked_step : i < n → is_marked y (meant b) (pairs_from ws n i) ≡ pair_test y b ws i || is_marked y (meant b) (pairs_from ws n (i + 1))
+module _ (y : ℕ) (b : Table) (ws : List ℕ) (n i : ℕ) where
+  marked_step : i < n → is_marked y b (pairs_from ws n i) ≡ pair_test y b ws i || is_marked y b (pairs_from ws n (i + 1))
   unfolding is_marked
-  marked_step h = ap (is_marked y (meant b)) (read_from pair_form n i ws h) ∙ simp (get_or-drop, add-zero)
+  marked_step h = ap (is_marked y b) (read_from pair_form n i ws h) ∙ simp (get_or-drop, add-zero)
 
-  pub marked_here : i < n → pair_test y b ws i ≡ true → is_marked y (meant b) (pairs_from ws n i) ≡ true
+  pub marked_here : i < n → pair_test y b ws i ≡ true → is_marked y b (pairs_from ws n i) ≡ true
   marked_here h t = simp t at (marked_step h)
 
-  pub marked_past : i < n → pair_test y b ws i ≡ false → is_marked y (meant b) (pairs_from ws n i) ≡ is_marked y (meant b) (pairs_from ws n (i + 1))
+  pub marked_past : i < n → pair_test y b ws i ≡ false → is_marked y b (pairs_from ws n i) ≡ is_marked y b (pairs_from ws n (i + 1))
   marked_past h t = simp t at (marked_step h)
 
-  pub marked_end : n ≤ i → is_marked y (meant b) (pairs_from ws n i) ≡ false
+  pub marked_end : n ≤ i → is_marked y b (pairs_from ws n i) ≡ false
   unfolding is_marked
-  marked_end h = ap (is_marked y (meant b)) (read_none pair_form n i (drop (2 * i) ws) h)
+  marked_end h = ap (is_marked y b) (read_none pair_form n i (drop (2 * i) ws) h)
 
 module _ (x : ℕ) (ws : List ℕ) (n i : ℕ) where
   place_step : i < n
@@ -57,12 +47,12 @@ module _ (x : ℕ) (ws : List ℕ) (n i : ℕ) where
   unfolding search_queue
   place_step h = ap (search_queue i x) (read_from entry_form n i ws h) ∙ simp (get_or-drop, add-zero, add-one)
 
-  pub place_here : i < n → get_or ws (3 * i) 0 ≡ x → search_queue i x (entries_from ws n i) ≡ place_among n i
-  place_here h e = simp (lt-ltb i n h) (simp (eq-eqb _ _ e) at (place_step h))
+  pub place_here : i < n → get_or ws (3 * i) 0 ≡ x → search_queue i x (entries_from ws n i) ≡ waiting_at i
+  place_here h e = simp (eq-eqb _ _ e) at (place_step h)
 
   pub place_past : i < n → (get_or ws (3 * i) 0 ≡ x → ⊥) → search_queue i x (entries_from ws n i) ≡ search_queue (i + 1) x (entries_from ws n (i + 1))
   place_past h e = simp (ne_eqb _ _ e) at (place_step h)
 
-  pub place_end : n ≤ i → search_queue i x (entries_from ws n i) ≡ place_among n n
+  pub place_end : n ≤ i → search_queue i x (entries_from ws n i) ≡ nowhere
   unfolding search_queue
-  place_end h = ap (search_queue i x) (read_none entry_form n i (drop (3 * i) ws) h) ∙ simp (le-ltb n n (le_refl n))
+  place_end h = ap (search_queue i x) (read_none entry_form n i (drop (3 * i) ws) h)

@@ -6,7 +6,7 @@ use native.Mathlib.Omega.{arith}
 use lib.ListN.{length, drop}
 use Rattle.little_endian.specs.Word.{bytes_of_word, AllBytes}
 use Rattle.little_endian.specs.Image.{words_of, WordsSettleBytes}
-use Rattle.little_endian.proofs.Laws.{bytes_of_four}
+use Rattle.little_endian.proofs.Laws.{bytes_of_word_read}
 use Rattle.little_endian.proofs.Image.{same_count}
 
 bytes_of : List ℕ → List ℕ
@@ -25,7 +25,7 @@ again (b0 ∷ (b1 ∷ (b2 ∷ (b3 ∷ bs)))) h =
     let e : 4 * suc n ≡ suc (suc (suc (suc (4 * n)))) = omega arith in
     let rest = drop (4 * n) bs in
     rw e
-    (ap (λ four. (four ++ bytes_of (words_of bs)) ++ rest) (bytes_of_four b0 b1 b2 b3 (h 0) (h 1) (h 2) (h 3))
+    (ap (λ four. (four ++ bytes_of (words_of bs)) ++ rest) (bytes_of_word_read (b0 ∷ (b1 ∷ (b2 ∷ (b3 ∷ bs)))) 0 h (omega arith))
     ∙ ap (λ l. b0 ∷ b1 ∷ b2 ∷ b3 ∷ l) (again bs (λ k. h (suc (suc (suc (suc k)))))))
 
 pub words_settle_bytes : WordsSettleBytes

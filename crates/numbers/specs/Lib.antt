@@ -1,5 +1,6 @@
 pub mod Ranges
 pub mod Home
 pub mod Homes
+pub mod Tables
 pub mod Ends
 pub mod ByHand

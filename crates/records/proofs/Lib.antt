@@ -1,4 +1,3 @@
-pub mod Marks
 pub mod Places
 pub mod Bound
 pub mod RoundTrip

@@ -49,12 +49,12 @@ entry_closed room n j es e h fits =
     ∙ ap (packed entry_form room) (sym (dropped es j k))
 
 -- the words tidied, then the entry's gap closed
-pub entry_gone : (c : Rooms) (j : ℕ) (q d q₁ d' q' : List ℕ) {a : Told} → j < c.queue_len → RoomsFit c (length q) (length d) → Tidied c.queue_len c.detector_len q d q₁ d'
-    → q' ≡ closed (3 * j) 3 (3 * c.queue_len) q₁ → a ≡ answered (with_lens c (c.queue_len - 1) c.detector_len) (answer 0 (get_or q (3 * j + 1) 0) 0 0)
+pub entry_gone : (c : Rooms) (j : ℕ) (q d q₁ d' q' : List ℕ) {a : Told} → j < c.lengths.queue → RoomsFit c (length q) (length d) → Tidied c.lengths.queue c.lengths.detector q d q₁ d'
+    → q' ≡ closed (3 * j) 3 (3 * c.lengths.queue) q₁ → a ≡ answered (with_lens c (c.lengths.queue - 1) c.lengths.detector) (answer 0 (get_or q (3 * j + 1) 0) 0 0)
     → EntryGone c j q d q' d' a
 entry_gone c j q d q₁ d' q' h w t e is = record {
-  queue = e ∙ ap (closed (3 * j) 3 (3 * c.queue_len)) t.queue
-      ∙ entry_closed (length q) c.queue_len j (entries_in c.queue_len q) (length-read_many entry_form c.queue_len q) h (omega arith);
+  queue = e ∙ ap (closed (3 * j) 3 (3 * c.lengths.queue)) t.queue
+      ∙ entry_closed (length q) c.lengths.queue j (entries_in c.lengths.queue q) (length-read_many entry_form c.lengths.queue q) h (omega arith);
   detector = t.detector;
   answer = is;
 }
@@ -93,9 +93,18 @@ cell_written r i t size h =
 entry_value : (ql j : ℕ) (q : List ℕ) → j < ql → (entry_at (entries_in ql q) j).value ≡ get_or q (3 * j + 1) 0
 entry_value ql j q h = ap (λ (e : Entry). e.value) (read_at entry_form ql j q no_entry h) ∙ simp get_or-drop
 
-module _ (f : Functions) (c : Rooms) (x : ℕ) (t0 t1 q d : List ℕ) where
-  abbrev m : Lent
-  m = lent t0 t1 q d
+module _ (f : Functions) (c : Rooms) (x : ℕ) (m : Lent) where
+  abbrev t0 : List ℕ
+  t0 = m.table0
+
+  abbrev t1 : List ℕ
+  t1 = m.table1
+
+  abbrev q : List ℕ
+  q = m.queue
+
+  abbrev d : List ℕ
+  d = m.detector
 
   abbrev s : Store
   s = store_of f c m
@@ -103,25 +112,25 @@ module _ (f : Functions) (c : Rooms) (x : ℕ) (t0 t1 q d : List ℕ) where
   abbrev Removes : Outcome → Type 0
   Removes o = o ≡ leaves c m (remove (numbers_of f c) x s)
 
-  pub refuses_bad : {a : Told} → good_key x ≡ false → a ≡ answered c (answer 4 0 0 0) → Removes (outcome m a)
+  pub refuses_bad : good_key x ≡ false → Removes (outcome m (answered c (answer 4 0 0 0)))
   unfolding leaves
-  refuses_bad bad e = ap (outcome m) e ∙ sym (ap (leaves c m) (remove_bad (numbers_of f c) x s bad))
+  refuses_bad bad = sym (ap (leaves c m) (remove_bad (numbers_of f c) x s bad))
 
   module _ (good : good_key x ≡ true) where
-    pub refuses_absent : {a : Told} → Located f c x m Nowhere → a ≡ answered c (answer 7 0 0 0) → Removes (outcome m a)
+    pub refuses_absent : Located f c x m Nowhere → Removes (outcome m (answered c (answer 7 0 0 0)))
     unfolding leaves
-    refuses_absent l e = ap (outcome m) e ∙ sym (ap (leaves c m) (remove_by (numbers_of f c) x s good nowhere (sym l.is)))
+    refuses_absent l = sym (ap (leaves c m) (remove_by (numbers_of f c) x s good nowhere (sym l.is)))
 
     module _ (fit : FitIn f c m) where
-      waits : c.queue_len ≡ length (entries_in c.queue_len q)
-      waits = sym (length-read_many entry_form c.queue_len q)
+      waits : c.lengths.queue ≡ length (entries_in c.lengths.queue q)
+      waits = sym (length-read_many entry_form c.lengths.queue q)
 
       -- each of the words, and the record
       removes : (p : RulesPlace) (u ql : ℕ) {t0' t1' q' d' : List ℕ} {a : Told} → p ≡ search (numbers_of f c) x s → value_at p s ≡ some u
           → t0' ≡ write_many cell_form (without p s).tables.table0 → t1' ≡ write_many cell_form (without p s).tables.table1
           → q' ≡ packed entry_form (length q) (without p s).waiting → d' ≡ packed pair_form (length d) (without p s).marked
-          → ql ≡ length (without p s).waiting → c.detector_len ≡ length (without p s).marked
-          → a ≡ answered (with_lens c ql c.detector_len) (answer 0 u 0 0) → Removes (outcome (lent t0' t1' q' d') a)
+          → ql ≡ length (without p s).waiting → c.lengths.detector ≡ length (without p s).marked
+          → a ≡ answered (with_lens c ql c.lengths.detector) (answer 0 u 0 0) → Removes (outcome (lent t0' t1' q' d') a)
       unfolding leaves words_in
       removes p u ql is value e0 e1 eq ed lq ld ea =
           let fq = eq ∙ ap (λ k. packed entry_form k (without p s).waiting) fit.rooms.queue in
@@ -130,28 +139,28 @@ module _ (f : Functions) (c : Rooms) (x : ℕ) (t0 t1 q d : List ℕ) where
           (λ i. outcome (lent (e0 i) (e1 i) (fq i) (fd i)) (fa i))
           ∙ sym (ap (leaves c m) (remove_at (numbers_of f c) x s good p u (sym is) value))
 
-      marks : c.detector_len ≡ length (pairs_in c.detector_len d)
-      marks = sym (length-read_many pair_form c.detector_len d)
+      marks : c.lengths.detector ≡ length (pairs_in c.lengths.detector d)
+      marks = sym (length-read_many pair_form c.lengths.detector d)
 
       module _ {i : ℕ} {t' q' d' : List ℕ} {a : Told} where
         pub removes_first : Located f c x m (Table0 i) → CellGone c i t0 q d t' q' d' a → Removes (outcome (lent t' t1 q' d') a)
         removes_first l g =
-            removes (in_table table_0 i) (get_or t0 (2 * i + 1) 0) c.queue_len l.is
+            removes (in_table table_0 i) (get_or t0 (2 * i + 1) 0) c.lengths.queue l.is
             (ap (λ (k : Cell). some k.value) (cell_read f.r i t0 l.within))
             (g.table ∙ cell_written f.r i t0 fit.first l.within) (sym (write_all cell_form cell_lawful f.r t1 fit.second))
             g.tidied.queue g.tidied.detector waits marks g.answer
 
         pub removes_second : Located f c x m (Table1 i) → CellGone c i t1 q d t' q' d' a → Removes (outcome (lent t0 t' q' d') a)
         removes_second l g =
-            removes (in_table table_1 i) (get_or t1 (2 * i + 1) 0) c.queue_len l.is
+            removes (in_table table_1 i) (get_or t1 (2 * i + 1) 0) c.lengths.queue l.is
             (ap (λ (k : Cell). some k.value) (cell_read f.r i t1 l.within))
             (sym (write_all cell_form cell_lawful f.r t0 fit.first)) (g.table ∙ cell_written f.r i t1 fit.second l.within)
             g.tidied.queue g.tidied.detector waits marks g.answer
 
       pub removes_waiting : {j : ℕ} {q' d' : List ℕ} {a : Told} → Located f c x m (Waiting j) → EntryGone c j q d q' d' a → Removes (outcome (lent t0 t1 q' d') a)
       removes_waiting {j} l g =
-          removes (waiting_at j) (get_or q (3 * j + 1) 0) (c.queue_len - 1) l.is (ap some (entry_value c.queue_len j q l.within))
+          removes (waiting_at j) (get_or q (3 * j + 1) 0) (c.lengths.queue - 1) l.is (ap some (entry_value c.lengths.queue j q l.within))
           (sym (write_all cell_form cell_lawful f.r t0 fit.first)) (sym (write_all cell_form cell_lawful f.r t1 fit.second))
           g.queue g.detector
-          (let h : j < c.queue_len = l.within in omega (arith, waits, dropped_length (entries_in c.queue_len q) j (omega (arith, waits))))
+          (let h : j < c.lengths.queue = l.within in omega (arith, waits, dropped_length (entries_in c.lengths.queue q) j (omega (arith, waits))))
           marks g.answer

@@ -36,8 +36,8 @@ held_words f c nq nd s t0 t1 q d ql dl a b l0 l1 eq ed h e = as_one
 
 -- words that hold a store, of the lengths that fit a record: they fit it, are ready, and stand for the store
 module _ (f : Functions) (c : Rooms) (ql : ℕ) (t0 t1 q d q' d' : List ℕ) (s : Store) (fit : FitIn f c (lent t0 t1 q d)) (few : ql ≤ c.queue_room)
-    (h : Holds f.r (length q) (length d) s t0 t1 q' d' ql c.detector_len) where
-  pub held_fit : FitIn f (with_lens c ql c.detector_len) (lent t0 t1 q' d')
+    (h : Holds f.r (length q) (length d) s t0 t1 q' d' ql c.lengths.detector) where
+  pub held_fit : FitIn f (with_lens c ql c.lengths.detector) (lent t0 t1 q' d')
   held_fit =
       let w = fit.rooms in
       let lq : length q' ≡ length q = holds_queue h (omega arith) in
@@ -59,25 +59,25 @@ module _ (f : Functions) (c : Rooms) (ql : ℕ) (t0 t1 q d q' d' : List ℕ) (s 
         };
       }
 
-  pub held_ready : Ready ql c.detector_len q' d'
+  pub held_ready : Ready ql c.lengths.detector q' d'
   held_ready = let w = fit.rooms in holds_ready h (omega arith) (omega arith) (omega arith) (omega arith)
 
-module _ (f : Functions) (c : Rooms) (t0 t1 q d q' d' : List ℕ) (fit : FitIn f c (lent t0 t1 q d)) (t : Tidied c.queue_len c.detector_len q d q' d') where
-  pub tidied_holds : Holds f.r (length q) (length d) (store_of f c (lent t0 t1 q d)) t0 t1 q' d' c.queue_len c.detector_len
+module _ (f : Functions) (c : Rooms) (t0 t1 q d q' d' : List ℕ) (fit : FitIn f c (lent t0 t1 q d)) (t : Tidied c.lengths.queue c.lengths.detector q d q' d') where
+  pub tidied_holds : Holds f.r (length q) (length d) (store_of f c (lent t0 t1 q d)) t0 t1 q' d' c.lengths.queue c.lengths.detector
   tidied_holds = record {
     first = refl;
     second = refl;
     queue = t.queue;
     detector = t.detector;
-    queue_len = sym (length-read_many entry_form c.queue_len q);
-    detector_len = sym (length-read_many pair_form c.detector_len d);
+    queue_len = sym (length-read_many entry_form c.lengths.queue q);
+    detector_len = sym (length-read_many pair_form c.lengths.detector d);
   }
 
   pub tidied_fit : FitIn f c (lent t0 t1 q' d')
-  tidied_fit = held_fit f c c.queue_len t0 t1 q d q' d' (store_of f c (lent t0 t1 q d)) fit fit.rooms.queue_in tidied_holds
+  tidied_fit = held_fit f c c.lengths.queue t0 t1 q d q' d' (store_of f c (lent t0 t1 q d)) fit fit.rooms.queue_in tidied_holds
 
-  pub tidied_ready : Ready c.queue_len c.detector_len q' d'
-  tidied_ready = held_ready f c c.queue_len t0 t1 q d q' d' (store_of f c (lent t0 t1 q d)) fit fit.rooms.queue_in tidied_holds
+  pub tidied_ready : Ready c.lengths.queue c.lengths.detector q' d'
+  tidied_ready = held_ready f c c.lengths.queue t0 t1 q d q' d' (store_of f c (lent t0 t1 q d)) fit fit.rooms.queue_in tidied_holds
 
   pub tidied_store : store_of f c (lent t0 t1 q' d') ≡ store_of f c (lent t0 t1 q d)
   tidied_store = holds_store tidied_holds
@@ -88,7 +88,7 @@ module _ (f : Functions) (c : Rooms) (m : Lent) (fit : FitIn f c m) (budget : �
   runs_with = record { detector_room = refl; homes = refl }
 
   pub ran_out : (t0 t1 q d : List ℕ) (e : Ended) {a : Told} → Runs f.r (length m.queue) (length m.detector) (run (numbers_of f c) budget (store_of f c m)) t0 t1 q d e
-      → length t0 ≡ length m.table0 → length t1 ≡ length m.table1 → a ≡ tells e.queue_len e.detector_len 0 0 e.steps e.moves
+      → length t0 ≡ length m.table0 → length t1 ≡ length m.table1 → a ≡ tells e.lengths.queue e.lengths.detector 0 0 e.steps e.moves
       → outcome (lent t0 t1 q d) a ≡ ran_outcome c (run (numbers_of f c) budget (store_of f c m))
   ran_out t0 t1 q d e r l0 l1 is = ap (outcome (lent t0 t1 q d)) is ∙ held_words f c _ _ _ t0 t1 q d _ _ _ _ (l0 ∙ fit.first) (l1 ∙ fit.second) fit.rooms.queue fit.rooms.detector r.words
       (λ i. tells (r.words.queue_len i) (r.words.detector_len i) 0 0 (r.steps i) (r.moves i))

@@ -2,7 +2,7 @@
 use Prim.Native.Nat.{ℕ, suc, ◌+◌, ◌-◌, ◌*◌, ◌≤◌, ◌<◌}
 use mathlib.Core.Path.{◌≡◌, refl, sym, ap, subst, ◌∙◌}
 use mathlib.Core.List.{List, [], ◌∷◌}
-use native.Mathlib.Nat.{sub-zero, zero-add, add-zero}
+use native.Mathlib.Nat.{sub-zero, zero-add, add-zero, le_refl}
 use native.Mathlib.Omega.{arith}
 use lib.ListN.{length, length-append}
 use Rattle.rules.specs.Store.{meant, Entry, Store, store, Numbers}
@@ -10,13 +10,14 @@ use Rattle.rules.specs.Step.{step}
 use Rattle.rules.specs.Run.{Ran, ran, as_move, counted, run}
 use Rattle.rules.proofs.Steps.{by_kind, by_front}
 use Rattle.rules.proofs.Runs.{join_runs, as_move_one, run_idle, run_more}
-use Rattle.layout.specs.Memory.{entries_in, pairs_in, homes_of, store_in}
+use Rattle.layout.specs.Memory.{Lent, entries_in, pairs_in, homes_of, store_in}
 use Rattle.numbers.specs.declared.Functions.{Functions}
+use Rattle.numbers.specs.declared.Lengths.{Lengths}
 use Rattle.layout.specs.Forms.{entry_form, pair_form, read_many, packed}
 use Rattle.layout.proofs.Forms.{entry_lawful, pair_lawful, length-read_many}
 use Rattle.layout.proofs.Packed.{length-packed, read_packed}
 use Rattle.kinds.specs.declared.Turn.{Turn}
-use Rattle.kinds.specs.Shape.{Ready}
+use Rattle.kinds.specs.Shape.{Ready, kind_number}
 use Rattle.steps.specs.Shape.{TablesReady, StepsWith, Holds, Follows, Runs}
 
 -- no step makes the queue longer, and the detector stays within its room
@@ -120,68 +121,66 @@ module _ (n : Numbers) (b : ℕ) (s₀ : Store) where
       empty [] h = refl
       empty (x ∷ q) h = absurd (omega arith)
 
-module _ (f : Functions) (room budget ql₀ dl₀ : ℕ) (t0₀ t1₀ q₀ d₀ : List ℕ) where
+-- the store that lent words hold
+abbrev pub held : (r ql dl : ℕ) → Lent → Store
+held r ql dl b = store_in r ql dl b.table0 b.table1 b.queue b.detector
+
+module _ (f : Functions) (room budget ql₀ dl₀ : ℕ) (b₀ : Lent) where
   -- what holds at the loop's head
-  pub record Going (t0 t1 q d : List ℕ) (ql dl s m : ℕ) : Type 0 where
+  pub record Going (b : Lent) (ql dl s m : ℕ) : Type 0 where
     pub few : m ≤ s
     pub within : s ≤ budget
-    pub tables : TablesReady f.r t0 t1
-    pub ready : Ready ql dl q d
-    pub room_is : length d ≡ 2 * room
-    pub first : length t0 ≡ length t0₀
-    pub second : length t1 ≡ length t1₀
-    pub queue : length q ≡ length q₀
-    pub detector : length d ≡ length d₀
-    pub rest : (n : Numbers) → StepsWith n f room → Apart n budget (store_in f.r ql₀ dl₀ t0₀ t1₀ q₀ d₀) (store_in f.r ql dl t0 t1 q d) s m
+    pub tables : TablesReady f.r b.table0 b.table1
+    pub ready : Ready ql dl b.queue b.detector
+    pub room_is : length b.detector ≡ 2 * room
+    pub queue : length b.queue ≡ length b₀.queue
+    pub detector : length b.detector ≡ length b₀.detector
+    pub rest : (n : Numbers) → StepsWith n f room → Apart n budget (held f.r ql₀ dl₀ b₀) (held f.r ql dl b) s m
 
   -- what the function ensures, left with these words and counts
-  abbrev pub Answered : List ℕ → List ℕ → List ℕ → List ℕ → ℕ → ℕ → ℕ → ℕ → Type 0
-  Answered t0 t1 q d ql dl s m = (n : Numbers) → StepsWith n f room
-      → Runs f.r (length q₀) (length d₀) (run n budget (store_in f.r ql₀ dl₀ t0₀ t1₀ q₀ d₀)) t0 t1 q d (record { queue_len = ql; detector_len = dl; steps = s; moves = m })
+  abbrev pub Answered : Lent → Lengths → ℕ → ℕ → Type 0
+  Answered b lengths s m = (n : Numbers) → StepsWith n f room
+      → Runs f.r (length b₀.queue) (length b₀.detector) (run n budget (held f.r ql₀ dl₀ b₀)) b.table0 b.table1 b.queue b.detector (record { lengths = lengths; steps = s; moves = m })
 
-module _ {f : Functions} {room budget ql₀ dl₀ : ℕ} {t0₀ t1₀ q₀ d₀ : List ℕ} where
-  pub begins : TablesReady f.r t0₀ t1₀ → length d₀ ≡ 2 * room → Ready ql₀ dl₀ q₀ d₀ → Going f room budget ql₀ dl₀ t0₀ t1₀ q₀ d₀ t0₀ t1₀ q₀ d₀ ql₀ dl₀ 0 0
+module _ {f : Functions} {room budget ql₀ dl₀ : ℕ} {b₀ : Lent} where
+  pub begins : TablesReady f.r b₀.table0 b₀.table1 → length b₀.detector ≡ 2 * room → Ready ql₀ dl₀ b₀.queue b₀.detector → Going f room budget ql₀ dl₀ b₀ b₀ ql₀ dl₀ 0 0
   begins ts e w = record {
     few = omega arith;
     within = omega arith;
     tables = ts;
     ready = w;
     room_is = e;
-    first = refl;
-    second = refl;
     queue = refl;
     detector = refl;
     rest = λ n w. none_yet n budget _;
   }
 
-  module _ {t0 t1 q d : List ℕ} {ql dl s m : ℕ} (g : Going f room budget ql₀ dl₀ t0₀ t1₀ q₀ d₀ t0 t1 q d ql dl s m) where
+  module _ {b : Lent} {ql dl s m : ℕ} (g : Going f room budget ql₀ dl₀ b₀ b ql dl s m) where
     abbrev s₀ : Store
-    s₀ = store_in f.r ql₀ dl₀ t0₀ t1₀ q₀ d₀
+    s₀ = held f.r ql₀ dl₀ b₀
 
     abbrev st : Store
-    st = store_in f.r ql dl t0 t1 q d
+    st = held f.r ql dl b
 
     -- the loop goes on, by k moves
-    pub goes : {t0' t1' q' d' : List ℕ} {k : ℕ} (a : Turn) → s < budget → 0 < ql
-        → ((n : Numbers) → StepsWith n f room → Follows f.r (length q) (length d) (step n (store_in f.r ql dl t0 t1 q d)) t0' t1' q' d' a)
-        → length t0' ≡ length t0 → length t1' ≡ length t1 → k ≡ as_move a.kind
-        → Going f room budget ql₀ dl₀ t0₀ t1₀ q₀ d₀ t0' t1' q' d' a.queue_len a.detector_len (s + 1) (m + k)
-    goes {t0'} {t1'} {q'} {d'} {k} a more some follows l0 l1 move =
+    pub goes : (b' : Lent) {k : ℕ} (a : Turn) → s < budget → 0 < ql
+        → ((n : Numbers) → StepsWith n f room → Follows f.r (length b.queue) (length b.detector) (step n st) b'.table0 b'.table1 b'.queue b'.detector a)
+        → length b'.table0 ≡ length b.table0 → length b'.table1 ≡ length b.table1 → k ≡ as_move (kind_number a.kind)
+        → Going f room budget ql₀ dl₀ b₀ b' a.lengths.queue a.lengths.detector (s + 1) (m + k)
+    goes b' {k} a more some follows l0 l1 move =
         let n₀ : Numbers = record { r = f.r; Q = 0; D = room; L = 0; home = homes_of f } in
         let h = (follows n₀ (record { detector_room = refl; homes = refl })).words in
-        let lq : length (entries_in ql q) ≡ ql = length-read_many entry_form ql q in
-        let ld : length (pairs_in dl d) ≡ dl = length-read_many pair_form dl d in
-        let in_queue : 3 * a.queue_len ≤ length q = omega (arith, step_waits n₀ st) in
-        let in_detector : 2 * a.detector_len ≤ length d = omega (arith, step-marks n₀ st (omega arith)) in
-        let wd : length d' ≡ length d = holds_detector h in_detector in
+        let lq : length (entries_in ql b.queue) ≡ ql = length-read_many entry_form ql b.queue in
+        let ld : length (pairs_in dl b.detector) ≡ dl = length-read_many pair_form dl b.detector in
+        let in_queue : 3 * a.lengths.queue ≤ length b.queue = omega (arith, step_waits n₀ st) in
+        let in_detector : 2 * a.lengths.detector ≤ length b.detector = omega (arith, step-marks n₀ st (omega arith)) in
+        let wd : length b'.detector ≡ length b.detector = holds_detector h in_detector in
         record {
-          few = omega (arith, as_move_one a.kind);
+          few = omega (arith, as_move_one (kind_number a.kind));
           within = omega arith;
           tables = record { some = g.tables.some; small = g.tables.small; first = l0 ∙ g.tables.first; second = l1 ∙ g.tables.second };
           ready = holds_ready h in_queue g.ready.queue_small in_detector g.ready.detector_small;
           room_is = wd ∙ g.room_is;
-          first = l0 ∙ g.first;
-          second = l1 ∙ g.second;
           queue = holds_queue h in_queue ∙ g.queue;
           detector = wd ∙ g.detector;
           rest = λ n w.
@@ -192,13 +191,14 @@ module _ {f : Functions} {room budget ql₀ dl₀ : ℕ} {t0₀ t1₀ q₀ d₀ 
         }
 
     -- the loop is left, with what its words hold
-    left : ((n : Numbers) → StepsWith n f room → run n budget s₀ ≡ ran st s m) → Answered f room budget ql₀ dl₀ t0₀ t1₀ q₀ d₀ t0 t1 q d ql dl s m
+    left : ((n : Numbers) → StepsWith n f room → run n budget s₀ ≡ ran st s m) → Answered f room budget ql₀ dl₀ b₀ b (record { detector = dl; queue = ql }) s m
     left e n w =
-        subst (λ (x : Ran). Runs f.r (length q₀) (length d₀) x t0 t1 q d (record { queue_len = ql; detector_len = dl; steps = s; moves = m })) (sym (e n w))
-        (record { words = ready_holds f.r (length q₀) (length d₀) t0 t1 g.ready g.queue g.detector; steps = refl; moves = refl })
+        subst (λ (x : Ran). Runs f.r (length b₀.queue) (length b₀.detector) x b.table0 b.table1 b.queue b.detector (record { lengths = record { detector = dl; queue = ql }; steps = s; moves = m })) (sym (e n w))
+        (record { words = ready_holds f.r (length b₀.queue) (length b₀.detector) b.table0 b.table1 g.ready g.queue g.detector; steps = refl; moves = refl })
 
-    pub ends : budget ≤ s → Answered f room budget ql₀ dl₀ t0₀ t1₀ q₀ d₀ t0 t1 q d ql dl s m
-    ends h = left (λ n w. spent n budget s₀ st s m h (g.rest n w))
+    pub idles : ql ≡ 0 → Answered f room budget ql₀ dl₀ b₀ b (record { detector = dl; queue = ql }) s m
+    idles h = left (λ n w. idle n budget s₀ st s m (length-read_many entry_form ql b.queue ∙ h) (g.rest n w))
 
-    pub idles : ql ≡ 0 → Answered f room budget ql₀ dl₀ t0₀ t1₀ q₀ d₀ t0 t1 q d ql dl s m
-    idles h = left (λ n w. idle n budget s₀ st s m (length-read_many entry_form ql q ∙ h) (g.rest n w))
+  -- the budget is spent
+  pub ends : {b : Lent} {ql dl m : ℕ} → Going f room budget ql₀ dl₀ b₀ b ql dl budget m → Answered f room budget ql₀ dl₀ b₀ b (record { detector = dl; queue = ql }) budget m
+  ends {b} {ql} {dl} {m} g = left g (λ n w. spent n budget (held f.r ql₀ dl₀ b₀) (held f.r ql dl b) budget m (le_refl budget) (g.rest n w))

@@ -1,10 +1,8 @@
 -- From a step in one table to the step of the rules. Assumes nothing.
 use Prim.Native.Nat.{ℕ, zero, suc, ◌<◌}
 use mathlib.Core.Path.{◌≡◌, refl, sym, ap, subst, ◌∙◌}
-use mathlib.Core.Logic.{◌≢◌}
 use mathlib.Core.List.{List, ◌∷◌}
 use native.Mathlib.Omega.{arith}
-use borrow.Author.Tests.{eq-eqb, ne_eqb}
 use lib.ListN.{get_or, drop}
 use Rattle.rules.specs.Store.{Table, table_0, table_1, meant, Cell, Entry, Tables, Store, Numbers}
 use Rattle.rules.specs.Step.{Stepped, step_at, step_from, step}
@@ -49,20 +47,20 @@ module _ (n : Numbers) (f : Functions) (room ql dl : ℕ) (t0 t1 q d : List ℕ)
         second = e1;
         queue = l.queue;
         detector = l.detector;
-        queue_len = ap (λ (y : Turn). y.queue_len) l.answer;
-        detector_len = ap (λ (y : Turn). y.detector_len) l.answer;
+        queue_len = l.queue_len;
+        detector_len = l.detector_len;
       };
-      kind = ap (λ (y : Turn). y.kind) l.answer;
+      kind = l.kind;
     }
 
-    pub first_table : (t' : List ℕ) → get_or q 2 0 ≡ 0
+    pub first_table : (t' : List ℕ) → meant (get_or q 2 0) ≡ table_0
         → After f.r (step_at room table_0 (home0 f (get_or q 0 0)) (entry (get_or q 0 0) (get_or q 1 0) 0) rest s) table_0 (cells_in f.r t1) nq nd t' q' d' a
         → Follows f.r nq nd (step n s) t' t1 q' d' a
-    first_table t' side l = subst (λ x. Follows f.r nq nd x t' t1 q' d' a) (sym (as_table table_0 0 (simp (eq-eqb (get_or q 2 0) 0 side))))
+    first_table t' side l = subst (λ x. Follows f.r nq nd x t' t1 q' d' a) (sym (as_table table_0 0 side))
         (lengths _ table_0 (cells_in f.r t1) t' t' t1 l (ap (λ (ts : Tables). ts.table0) l.tables) (ap (λ (ts : Tables). ts.table1) l.tables))
 
-    pub second_table : (t' : List ℕ) → get_or q 2 0 ≢ 0
+    pub second_table : (t' : List ℕ) → meant (get_or q 2 0) ≡ table_1
         → After f.r (step_at room table_1 (home1 f (get_or q 0 0)) (entry (get_or q 0 0) (get_or q 1 0) 1) rest s) table_1 (cells_in f.r t0) nq nd t' q' d' a
         → Follows f.r nq nd (step n s) t0 t' q' d' a
-    second_table t' side l = subst (λ x. Follows f.r nq nd x t0 t' q' d' a) (sym (as_table table_1 1 (simp (ne_eqb (get_or q 2 0) 0 side))))
+    second_table t' side l = subst (λ x. Follows f.r nq nd x t0 t' q' d' a) (sym (as_table table_1 1 side))
         (lengths _ table_1 (cells_in f.r t0) t' t0 t' l (ap (λ (ts : Tables). ts.table0) l.tables) (ap (λ (ts : Tables). ts.table1) l.tables))

@@ -7,7 +7,7 @@ use Rattle.layout.specs.Memory.{cells_in, entries_in, pairs_in, homes_of}
 use Rattle.numbers.specs.declared.Functions.{Functions}
 use Rattle.layout.specs.Forms.{entry_form, pair_form, packed}
 use Rattle.kinds.specs.declared.Turn.{Turn}
-use Rattle.kinds.specs.Shape.{turn}
+use Rattle.kinds.specs.Shape.{kind_number}
 use Rattle.steps.specs.declared.Ended.{Ended}
 
 -- one table's cells beside the other's
@@ -24,7 +24,9 @@ pub record After (r : ℕ) (s : Stepped) (t : Table) (o : List Cell) (nq nd : �
   pub tables : with_table t (cells_in r tw) o ≡ s.store.tables
   pub queue : q ≡ packed entry_form nq s.store.waiting
   pub detector : d ≡ packed pair_form nd s.store.marked
-  pub answer : a ≡ turn s.kind (length s.store.waiting) (length s.store.marked)
+  pub kind : kind_number a.kind ≡ s.kind
+  pub queue_len : a.lengths.queue ≡ length s.store.waiting
+  pub detector_len : a.lengths.detector ≡ length s.store.marked
 
 -- both tables have r cells
 pub record TablesReady (r : ℕ) (t0 t1 : List ℕ) : Type 0 where
@@ -49,11 +51,11 @@ pub record Holds (r nq nd : ℕ) (s : Store) (t0 t1 q d : List ℕ) (ql dl : ℕ
 
 -- the words after a step
 pub record Follows (r nq nd : ℕ) (s : Stepped) (t0 t1 q d : List ℕ) (a : Turn) : Type 0 where
-  pub words : Holds r nq nd s.store t0 t1 q d a.queue_len a.detector_len
-  pub kind : a.kind ≡ s.kind
+  pub words : Holds r nq nd s.store t0 t1 q d a.lengths.queue a.lengths.detector
+  pub kind : kind_number a.kind ≡ s.kind
 
 -- the words after a run
 pub record Runs (r nq nd : ℕ) (e : Ran) (t0 t1 q d : List ℕ) (a : Ended) : Type 0 where
-  pub words : Holds r nq nd e.store t0 t1 q d a.queue_len a.detector_len
+  pub words : Holds r nq nd e.store t0 t1 q d a.lengths.queue a.lengths.detector
   pub steps : a.steps ≡ e.steps
   pub moves : a.moves ≡ e.moves

@@ -21,13 +21,15 @@ use Rattle.checks.specs.Sound.{is_sound_in}
 use Rattle.store.specs.declared.Control.{Control}
 use Rattle.store.specs.declared.Answer.{Answer}
 use Rattle.layout.specs.Memory.{Lent, homes_of}
-use Rattle.store.specs.Memory.{functions_of, numbers_of, store_of}
+use Rattle.numbers.specs.declared.Rooms.{Rooms}
+use Rattle.store.specs.Memory.{functions_of, rooms_of, numbers_of, store_of}
 use Rattle.store.specs.Refusals.{in_range, sized_in, lengths_within, Outcome, outcome, answered, keeps, unless_fault}
 use Rattle.store.specs.Calls.{checking, checked}
 use Rattle.faults.specs.Faults.{fault_of}
 use Rattle.faults.proofs.Accepted.{both, accepted-tests}
 use Rattle.store.specs.Sound.{SoundIn, CheckKeepsSound, CheckIsExact}
-use Rattle.store.proofs.Faults.{no_fault, fault_in, goes_on_lem, keeps_all}
+use Rattle.store.specs.Inner.{fault_in}
+use Rattle.store.proofs.Faults.{no_fault, goes_on_lem, keeps_all}
 use Rattle.store.proofs.Demand1.{check_changes_nothing}
 use Rattle.store.proofs.Simulation.{no_faults, contents}
 
@@ -44,15 +46,15 @@ unfolding checking
 check_refuses c m h = simp h
 
 -- what the code's test of the whole store answers is that test
-pub tested_by : (c : Control) (m : Lent) {f : Functions} {b : Bool} → f ≡ functions_of c
-    → ((n : Numbers) → n.home ≡ homes_of f → b ≡ is_sound_in n f.r c.queue_len c.detector_len m.table0 m.table1 m.queue m.detector) → b ≡ passes c m
-tested_by c m functions is =
+pub tested_by : (c : Control) (m : Lent) {f : Functions} {w : Rooms} {b : Bool} → f ≡ functions_of c → w ≡ rooms_of c
+    → ((n : Numbers) → n.home ≡ homes_of f → b ≡ is_sound_in n f.r w.lengths.queue w.lengths.detector m.table0 m.table1 m.queue m.detector) → b ≡ passes c m
+tested_by c m functions rooms is =
     is (numbers_of c) (λ i. homes_of (sym functions i))
-    ∙ (λ i. is_sound_in (numbers_of c) (functions i).r c.queue_len c.detector_len m.table0 m.table1 m.queue m.detector)
+    ∙ (λ i. is_sound_in (numbers_of c) (functions i).r (rooms i).lengths.queue (rooms i).lengths.detector m.table0 m.table1 m.queue m.detector)
 
-pub checks_by : (c : Control) (m : Lent) {k : ℕ} {b : Bool} {a : Answer} → k ≡ fault_in c m → k ≡ 0 → b ≡ passes c m → a ≡ answered c (answer (cond b 0 9) 0 0 0)
+pub checks_by : (c : Control) (m : Lent) {b : Bool} {a : Answer} → fault_in c m ≡ 0 → b ≡ passes c m → a ≡ answered c (answer (cond b 0 9) 0 0 0)
     → outcome m a ≡ unless_fault c m (checking c m)
-checks_by c m {b = b} test none passed is = ap (outcome m) is ∙ go b passed ∙ sym (goes_on_lem c m (checking c m) (sym test ∙ none))
+checks_by c m {b = b} none passed is = ap (outcome m) is ∙ go b passed ∙ sym (goes_on_lem c m (checking c m) none)
   where
     go : (b : Bool) → b ≡ passes c m → keeps c m (answer (cond b 0 9) 0 0 0) ≡ checking c m
     go true e = check_accepts c m (sym e)

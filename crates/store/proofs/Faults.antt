@@ -1,11 +1,10 @@
 -- What an accepted record and accepted lengths say, and what refusals 1, 2 and 3 leave. Assumes nothing.
-use Prim.Native.Nat.{ℕ}
+use Prim.Native.Nat.{ℕ, ◌≤◌}
 use mathlib.Core.Path.{◌≡◌, refl, ap}
 use mathlib.Core.Logic.{◌≢◌}
 use mathlib.Core.Bool.{Bool, true, false, cond, not, ◌&&◌}
 use native.Mathlib.Omega.{arith}
 use lib.Dec.{leb}
-use lib.ListN.{length}
 use borrow.Author.Tests.{leb-true}
 use Rattle.rules.specs.Calls.{answer}
 use Rattle.layout.specs.Memory.{Lent}
@@ -14,6 +13,7 @@ use Rattle.faults.proofs.Accepted.{both, ranges, Sizes, sizes, accepted-tests}
 use Rattle.finding.specs.Inner.{Fit}
 use Rattle.store.specs.declared.Control.{Control}
 use Rattle.store.specs.Memory.{functions_of, rooms_of}
+use Rattle.store.specs.Inner.{fault_in}
 use Rattle.store.specs.Refusals.{in_range, sized_in, lengths_within, Outcome, keeps, refuse_if, unless_fault}
 
 -- the test behind `sized_in`, of four lengths
@@ -47,8 +47,16 @@ no_fault c n0 n1 nq nd h =
       };
     }
 
-abbrev pub fault_in : Control → Lent → ℕ
-fault_in c m = fault_of (functions_of c) (rooms_of c) (length m.table0) (length m.table1) (length m.queue) (length m.detector)
+-- the first three refusals
+pub fault_few : (c : Control) (m : Lent) → fault_in c m ≤ 3
+unfolding fault_of
+fault_few c m = go (in_range c) (sized_in c m) (lengths_within c)
+  where
+    go : (a b f : Bool) → cond a (cond b (cond f 0 3) 2) 1 ≤ 3
+    go true true true = omega arith
+    go true true false = omega arith
+    go true false f = omega arith
+    go false b f = omega arith
 
 -- without a fault the call goes on, with one it keeps everything
 module _ (c : Control) (m : Lent) (after : Outcome) where

@@ -21,7 +21,8 @@ use Rattle.layout.specs.Memory.{words_in, Lent, lent}
 use Rattle.store.specs.Memory.{numbers_of, words_of, with_lens}
 use Rattle.store.specs.Refusals.{in_range, sized_in, lengths_within, outcome, answered, keeps, refuse_if}
 use Rattle.store.specs.Calls.{zeros, new_record, opened}
-use Rattle.store.proofs.Faults.{own_sizes, fault_in}
+use Rattle.store.specs.Inner.{fault_in}
+use Rattle.store.proofs.Faults.{own_sizes}
 
 -- a new record's lengths are within its rooms
 pub new_within : (r Q D L a0 b0 a1 b1 : ℕ) → lengths_within (new_record r Q D L a0 b0 a1 b1) ≡ true

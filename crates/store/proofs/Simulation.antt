@@ -30,7 +30,8 @@ use Rattle.store.specs.Calls.{leaves, changing, does}
 use Rattle.changing.specs.Change.{put_value}
 use Rattle.store.specs.Sound.{SoundIn, CallKeepsSound}
 use Rattle.store.specs.Demand2.{plain}
-use Rattle.store.proofs.Faults.{own_sizes, fault_in, goes_on_lem}
+use Rattle.store.specs.Inner.{fault_in}
+use Rattle.store.proofs.Faults.{own_sizes, goes_on_lem}
 use Rattle.store.proofs.Demand1.{goes_on, does_is}
 use Rattle.store.proofs.Written.{reads_back, written_sound}
 use Rattle.store.proofs.Putting.{Inside, put_store, put_sized, put_behind, put_detector}

@@ -15,10 +15,9 @@ functions_of c = record { r = c.r; a0 = c.a0; b0 = c.b0; a1 = c.a1; b1 = c.b1 }
 abbrev pub rooms_of : Control → Rooms
 rooms_of c = record {
   queue_room = c.queue_room;
-  detector_room = c.detector_room;
   step_limit = c.step_limit;
-  queue_len = c.queue_len;
-  detector_len = c.detector_len;
+  lengths = record { detector = c.detector_len; queue = c.queue_len };
+  detector_room = c.detector_room;
 }
 
 -- the numbers of a record

@@ -4,18 +4,21 @@
 ghost use Rattle.std.specs.Prelude.{◌≡◌};
 ghost use Rattle.rules.specs.Calls.{answer};
 ghost use Rattle.layout.specs.Memory.{lent};
-ghost use Rattle.finding.specs.Inner.{told_by};
+ghost use Rattle.refusals.specs.Numbers.{number_of, value_of, number_of_test};
+ghost use Rattle.finding.specs.Inner.{told_under, told_by};
 ghost use Rattle.store.specs.Memory.{functions_of, rooms_of};
 ghost use Rattle.store.specs.Refusals.{outcome, answered};
 ghost use Rattle.store.specs.Calls.{zeros, new_record, opened, found, defined, changed, removed, settled, checked};
-ghost use Rattle.store.specs.Inner.{carried};
+ghost use Rattle.store.specs.Inner.{fault_in, carried};
 
 use finding::Done;
-use numbers::{Functions, Rooms};
+use layout::Buffers;
+use numbers::{Functions, Lengths, Rooms};
+use refusals::Refusal;
 
 // r, Q, D, L, the numbers of the two home functions, and the two lengths.
 #[repr(C)]
-#[derive(Clone, Copy)]
+#[derive(Clone, Copy, Default)]
 pub struct Control {
     pub r: u32,
     pub queue_room: u32,
@@ -40,58 +43,100 @@ pub struct Answer {
     pub moves: u32,
 }
 
-impl Control {
-    // The home functions.
-    fn functions(self) -> Functions
-        ensures { result ≡ functions_of self }
-    {
+// The home functions of a record.
+impl From<Control> for Functions {
+    ghost from_gives = { λ c f. f ≡ functions_of c };
+
+    fn from(c: Control) -> Functions {
         Functions {
-            r: self.r,
-            a0: self.a0,
-            b0: self.b0,
-            a1: self.a1,
-            b1: self.b1,
+            r: c.r,
+            a0: c.a0,
+            b0: c.b0,
+            a1: c.a1,
+            b1: c.b1,
         }
     }
+}
 
-    // The rooms, the step limit and the lengths.
-    fn rooms(self) -> Rooms
-        ensures { result ≡ rooms_of self }
-    {
+// The rooms, the step limit and the lengths of a record.
+impl From<Control> for Rooms {
+    ghost from_gives = { λ c rooms. rooms ≡ rooms_of c };
+
+    fn from(c: Control) -> Rooms {
         Rooms {
-            queue_room: self.queue_room,
-            detector_room: self.detector_room,
-            step_limit: self.step_limit,
-            queue_len: self.queue_len,
-            detector_len: self.detector_len,
+            queue_room: c.queue_room,
+            step_limit: c.step_limit,
+            lengths: Lengths {
+                detector: c.detector_len,
+                queue: c.queue_len,
+            },
+            detector_room: c.detector_room,
         }
     }
+}
 
-    // An answer without steps.
-    fn reply(self, number: u32, value: u32) -> Answer
-        ensures { result ≡ answered self (answer number value 0 0) }
+impl Control {
+    // Refusals 1, 2 and 3: of the record's numbers, and of the lengths of the buffers.
+    fn fault(self, t0: &[u32], t1: &[u32], queue: &[u32], detector: &[u32]) -> Result<(), Refusal>
+        ensures { number_of_test result ≡ fault_in self (lent t0.now t1.now queue.now detector.now) }
+    {
+        let f = Functions::from(self);
+        let c = Rooms::from(self);
+        faults::fault(f, c, t0.len(), t1.len(), queue.len(), detector.len())
+    }
+
+    // Accepted without steps and with value 0.
+    fn accepted(self) -> Answer
+        ensures { result ≡ answered self (answer 0 0 0 0) }
     {
         Answer {
             control: self,
-            number,
-            value,
+            number: 0,
+            value: 0,
             steps: 0,
             moves: 0,
         }
     }
 
-    // The record with new lengths, and an answer.
-    fn after(mut self, d: Done) -> Answer
-        ensures { result ≡ carried self (told_by d) }
+    // Refused: the record as it was received.
+    fn refused(self, refusal: Refusal) -> Answer
+        ensures { result ≡ answered self (answer (number_of refusal) (value_of refusal) 0 0) }
     {
-        self.queue_len = d.queue_len();
-        self.detector_len = d.detector_len();
         Answer {
             control: self,
-            number: d.number,
-            value: d.value,
-            steps: d.steps,
-            moves: d.moves,
+            number: refusal.number(),
+            value: refusal.value(),
+            steps: 0,
+            moves: 0,
+        }
+    }
+
+    // The number of a call's answer, and what it gives back: refused, the record's own lengths and the refusal's value.
+    fn told(self, done: Result<Done, Refusal>) -> (u32, Done)
+        ensures { told_under result.0 result.1 ≡ told_by (rooms_of self) done }
+    {
+        match done {
+            Ok(done) => (0, done),
+            Err(refusal) => {
+                let lengths = Rooms::from(self).lengths;
+                (refusal.number(), Done::at_rest(lengths, refusal.value()))
+            }
+        }
+    }
+
+    // The record with the lengths that a call leaves, and its answer.
+    fn after(mut self, done: Result<Done, Refusal>) -> Answer
+        ensures { result ≡ carried self (told_by (rooms_of self) done) }
+    {
+        let (number, done) = self.told(done);
+        self.queue_len = done.queue_len();
+        self.detector_len = done.detector_len();
+        Answer {
+            control: self,
+            number,
+            value: done.value,
+            steps: done.steps,
+            moves: done.moves,
         }
     }
 
@@ -99,13 +144,13 @@ impl Control {
     pub fn find(self, x: u32, t0: &[u32], t1: &[u32], queue: &[u32], detector: &[u32]) -> Answer
         ensures { outcome (lent t0.now t1.now queue.now detector.now) result ≡ found self x (lent t0.now t1.now queue.now detector.now) }
     {
-        let f = self.functions();
-        let c = self.rooms();
-        let k = faults::fault(f, c, t0.len(), t1.len(), queue.len(), detector.len());
-        if k != 0 {
-            return self.reply(k, 0);
+        match self.fault(t0, t1, queue, detector) {
+            Ok(()) => {
+                let f = Functions::from(self);
+                self.after(finding::find(f, Rooms::from(self), x, t0, t1, queue))
+            }
+            Err(refusal) => self.refused(refusal),
         }
-        self.after(finding::find(f, c, x, t0, t1, queue))
     }
 
     // Settle n: steps run until n are done or the queue is empty.
@@ -119,13 +164,20 @@ impl Control {
     ) -> Answer
         ensures { outcome (lent t0.new t1.new queue.new detector.new) result ≡ settled self n (lent t0.old t1.old queue.old detector.old) }
     {
-        let f = self.functions();
-        let c = self.rooms();
-        let k = faults::fault(f, c, t0.len(), t1.len(), queue.len(), detector.len());
-        if k != 0 {
-            return self.reply(k, 0);
+        match self.fault(t0, t1, queue, detector) {
+            Ok(()) => {
+                let f = Functions::from(self);
+                let c = Rooms::from(self);
+                let mut m = Buffers {
+                    t0,
+                    t1,
+                    queue,
+                    detector,
+                };
+                self.after(settling::settle(f, c, n, &mut m))
+            }
+            Err(refusal) => self.refused(refusal),
         }
-        self.after(settling::settle(f, c, n, t0, t1, queue, detector))
     }
 
     // Define: the entry (key, value, 0) joins the back of the queue, then steps run until L are done or the queue is empty.
@@ -140,13 +192,20 @@ impl Control {
     ) -> Answer
         ensures { outcome (lent t0.new t1.new queue.new detector.new) result ≡ defined self x v (lent t0.old t1.old queue.old detector.old) }
     {
-        let f = self.functions();
-        let c = self.rooms();
-        let k = faults::fault(f, c, t0.len(), t1.len(), queue.len(), detector.len());
-        if k != 0 {
-            return self.reply(k, 0);
+        match self.fault(t0, t1, queue, detector) {
+            Ok(()) => {
+                let f = Functions::from(self);
+                let c = Rooms::from(self);
+                let mut m = Buffers {
+                    t0,
+                    t1,
+                    queue,
+                    detector,
+                };
+                self.after(adding::define(f, c, x, v, &mut m))
+            }
+            Err(refusal) => self.refused(refusal),
         }
-        self.after(adding::define(f, c, x, v, t0, t1, queue, detector))
     }
 
     // Change: the value at the place that find would use is replaced; the old one is answered. No steps.
@@ -161,13 +220,20 @@ impl Control {
     ) -> Answer
         ensures { outcome (lent t0.new t1.new queue.new detector.new) result ≡ changed self x v (lent t0.old t1.old queue.old detector.old) }
     {
-        let f = self.functions();
-        let c = self.rooms();
-        let k = faults::fault(f, c, t0.len(), t1.len(), queue.len(), detector.len());
-        if k != 0 {
-            return self.reply(k, 0);
+        match self.fault(t0, t1, queue, detector) {
+            Ok(()) => {
+                let f = Functions::from(self);
+                let c = Rooms::from(self);
+                let mut m = Buffers {
+                    t0,
+                    t1,
+                    queue,
+                    detector,
+                };
+                self.after(changing::change(f, c, x, v, &mut m))
+            }
+            Err(refusal) => self.refused(refusal),
         }
-        self.after(changing::change(f, c, x, v, t0, t1, queue))
     }
 
     // Remove: the entry at the place that find would use goes; its value is answered. No steps.
@@ -181,30 +247,19 @@ impl Control {
     ) -> Answer
         ensures { outcome (lent t0.new t1.new queue.new detector.new) result ≡ removed self x (lent t0.old t1.old queue.old detector.old) }
     {
-        let f = self.functions();
-        let c = self.rooms();
-        let k = faults::fault(f, c, t0.len(), t1.len(), queue.len(), detector.len());
-        if k != 0 {
-            return self.reply(k, 0);
-        }
-        self.after(removing::remove(f, c, x, t0, t1, queue, detector))
-    }
-
-    // A record of zeros.
-    fn zeros() -> Control
-        ensures { result ≡ zeros }
-    {
-        Control {
-            r: 0,
-            queue_room: 0,
-            detector_room: 0,
-            step_limit: 0,
-            a0: 0,
-            b0: 0,
-            a1: 0,
-            b1: 0,
-            queue_len: 0,
-            detector_len: 0,
+        match self.fault(t0, t1, queue, detector) {
+            Ok(()) => {
+                let f = Functions::from(self);
+                let c = Rooms::from(self);
+                let mut m = Buffers {
+                    t0,
+                    t1,
+                    queue,
+                    detector,
+                };
+                self.after(removing::remove(f, c, x, &mut m))
+            }
+            Err(refusal) => self.refused(refusal),
         }
     }
 
@@ -237,37 +292,34 @@ impl Control {
             queue_len: 0,
             detector_len: 0,
         };
-        let f = c.functions();
-        let w = c.rooms();
-        let k = faults::fault(f, w, t0.len(), t1.len(), queue.len(), detector.len());
-        if k != 0 {
-            return Control::zeros().reply(k, 0);
+        match c.fault(t0, t1, queue, detector) {
+            Ok(()) => {
+                layout::clear_all(&mut Buffers {
+                    t0,
+                    t1,
+                    queue,
+                    detector,
+                });
+                c.accepted()
+            }
+            Err(refusal) => Control::default().refused(refusal),
         }
-        layout::clear_all(t0, t1, queue, detector);
-        c.reply(0, 0)
     }
 
     // Check: accepted exactly for a sound store.
     pub fn check(self, t0: &[u32], t1: &[u32], queue: &[u32], detector: &[u32]) -> Answer
         ensures { outcome (lent t0.now t1.now queue.now detector.now) result ≡ checked self (lent t0.now t1.now queue.now detector.now) }
     {
-        let f = self.functions();
-        let c = self.rooms();
-        let k = faults::fault(f, c, t0.len(), t1.len(), queue.len(), detector.len());
-        if k != 0 {
-            return self.reply(k, 0);
+        match self.fault(t0, t1, queue, detector) {
+            Ok(()) => {
+                let f = Functions::from(self);
+                let c = Rooms::from(self);
+                if checks::is_sound(f, c.lengths, t0, t1, queue, detector) {
+                    return self.accepted();
+                }
+                self.refused(Refusal::NotSound)
+            }
+            Err(refusal) => self.refused(refusal),
         }
-        if checks::is_sound(
-            f,
-            self.queue_len,
-            self.detector_len,
-            t0,
-            t1,
-            queue,
-            detector,
-        ) {
-            return self.reply(0, 0);
-        }
-        self.reply(9, 0)
     }
 }

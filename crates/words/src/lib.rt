@@ -1,51 +1,26 @@
 // Words that a caller lends: stored, cleared, moved up. Inner functions: their callers show what they require.
 #![tactic(auto)]
 
-ghost use Rattle.std.specs.Prelude.{◌≡◌, [], ◌∷◌, ◌+◌, ◌-◌, ◌≤◌, ◌<◌, length, drop};
+ghost use Rattle.std.specs.Prelude.{◌≡◌, ◌+◌, ◌≤◌, length};
 ghost use Rattle.std.proofs.lemmas.List.Edits.{sets};
-ghost use Rattle.std.proofs.Math.Seq.{paste};
 ghost use Rattle.words.specs.Words.{cleared, closed};
 
-// Two words at a place.
-pub fn put_two(ws: &mut [u32], at: usize, x: u32, y: u32)
-    requires { at + 1 < length ws.old }
-    ensures { ws.new ≡ sets ws.old at (x ∷ y ∷ []) }
+// Words at a place.
+pub fn put<const N: usize>(ws: &mut [u32], at: usize, words: [u32; N])
+    requires { at + N ≤ length ws.old }
+    ensures { ws.new ≡ sets ws.old at words.entry }
 {
-    ws[at] = x;
-    ws[at + 1] = y;
+    ws[at..at + N].copy_from_slice(&words);
 }
 
-// Three words at a place.
-pub fn put_three(ws: &mut [u32], at: usize, x: u32, y: u32, z: u32)
-    requires { at + 2 < length ws.old }
-    ensures { ws.new ≡ sets ws.old at (x ∷ y ∷ z ∷ []) }
-{
-    ws[at] = x;
-    ws[at + 1] = y;
-    ws[at + 2] = z;
-}
-
-// Zeros from one place up to another.
+// Zeros from one place up to another. A loop and no `fill`, which stores the last word apart: with it a settle with nothing waiting took 1.16 to 1.22 of the
+// limit's time, and takes 1.08 to 1.14 (docs/BENCHMARKS.md says what the limit is).
 pub fn clear(ws: &mut [u32], from: usize, to: usize)
     requires { (from ≤ to) × (to ≤ length ws.old) }
     ensures { ws.new ≡ cleared from to ws.old }
 {
-    let mut i = from;
-    while i < to {
+    for i in from..to {
         ws[i] = 0;
-        i += 1;
-    }
-}
-
-// The words from at + w up to end move up by w; those that they leave stay.
-fn move_up(ws: &mut [u32], at: usize, w: usize, end: usize)
-    requires { (at + w ≤ end) × (end ≤ length ws.old) }
-    ensures { ws.new ≡ paste ws.old at (drop (at + w) ws.old) (end - (at + w)) }
-{
-    let mut i = at + w;
-    while i < end {
-        ws[i - w] = ws[i];
-        i += 1;
     }
 }
 
@@ -54,6 +29,6 @@ pub fn close_gap(ws: &mut [u32], at: usize, w: usize, end: usize)
     requires { (at + w ≤ end) × (end ≤ length ws.old) }
     ensures { ws.new ≡ closed at w end ws.old }
 {
-    move_up(ws, at, w, end);
+    ws.copy_within(at + w..end, at);
     clear(ws, end - w, end);
 }

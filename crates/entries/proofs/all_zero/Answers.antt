@@ -1,23 +1,16 @@
--- `entries::all_zero` meets its contract: the words are zero exactly if those from place i on are. The measure is what is left of the length. Assumes nothing.
-use mathlib.Core.Path.{sym, ◌∙◌}
-use native.Mathlib.Omega.{arith}
-use Rattle.entries.proofs.Zeros.{not_zero, zero_here, zeros_end}
+-- `entries::all_zero` meets its contract: the test of each word that is left. Assumes nothing.
+use Rattle.std.proofs.Common.{rules, tests, eqb}
+use Rattle.std.proofs.lemmas.Iterator.{YieldsList-from_slice}
+use Rattle.std.proofs.lemmas.Iterator.Search.{all_from_yields_List}
+use lib.ListN.{drop}
+use mathlib.Core.Path.{◌∙◌}
+use Rattle.entries.specs.Zeros.{all_zero}
+use Rattle.entries.proofs.Queue.{rest_of}
 use Rattle.entries.proofs.all_zero.Goals as goal
 
-pub returns-then-ws-i-ne0 : goal.returns-then-ws-i-ne0
-returns-then-ws-i-ne0 c =
-    let a = c.args in
-    let o = c.loop-i in
-    sym (o.invariant.1 ∙ not_zero a.ws.now o.i c.loop-i-test.true c.if-ws-i-ne0.true)
-
-pub loop-i-preserved : goal.loop-i-preserved
-loop-i-preserved c =
-    let a = c.args in
-    let o = c.loop-i in
-    (omega arith, o.invariant.1 ∙ zero_here a.ws.now o.i c.loop-i-test.true c.if-ws-i-ne0.false)
-
 pub returns : goal.returns
+unfolding all_zero
 returns c =
     let a = c.args in
-    let o = c.loop-i in
-    sym (o.invariant.1 ∙ zeros_end a.ws.now o.i c.loop-i-test.false)
+    let words = YieldsList-from_slice (drop a.from a.ws.now) (c.iter.ensures.rest ∙ rest_of a.from a.ws.now) in
+    all_from_yields_List (λ x. eqb x 0) _ _ c.all.result c.all.ensures.ran words (λ x b q k. search (rules, tests))

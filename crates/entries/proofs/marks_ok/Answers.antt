@@ -1,23 +1,15 @@
--- `entries::marks_ok` meets its contract: the pairs pass exactly if those from place j on do. The measure is n - j. Assumes nothing.
-use mathlib.Core.Path.{sym, ◌∙◌}
+-- `entries::marks_ok` meets its contract: the pairs pass exactly if each does. Assumes nothing.
+use mathlib.Core.Path.{refl, ◌∙◌}
 use native.Mathlib.Omega.{arith}
-use Rattle.entries.proofs.Queue.{pair_bad, pair_good, marks_end}
+use Rattle.std.proofs.Common.{rules, tests}
+use Rattle.std.proofs.lemmas.Iterator.{YieldsList-from_range}
+use Rattle.std.proofs.lemmas.Iterator.Search.{all_from_yields_List}
+use Rattle.entries.proofs.Queue.{pair_passes, all_pairs}
 use Rattle.entries.proofs.marks_ok.Goals as goal
-
-pub returns-then-not-pair_ok : goal.returns-then-not-pair_ok
-returns-then-not-pair_ok c =
-    let a = c.args in
-    let o = c.loop-j in
-    sym (o.invariant.1 ∙ pair_bad a.n o.j a.detector.now c.loop-j-test.true (sym c.pair_ok.ensures ∙ c.if-not-pair_ok.true))
-
-pub loop-j-preserved : goal.loop-j-preserved
-loop-j-preserved c =
-    let a = c.args in
-    let o = c.loop-j in
-    (omega arith, o.invariant.1 ∙ pair_good a.n o.j a.detector.now c.loop-j-test.true (sym c.pair_ok.ensures ∙ c.if-not-pair_ok.false))
 
 pub returns : goal.returns
 returns c =
     let a = c.args in
-    let o = c.loop-j in
-    sym (o.invariant.1 ∙ marks_end a.n o.j a.detector.now c.loop-j-test.false)
+    let places = YieldsList-from_range 0 a.n a.n refl (omega arith) in
+    all_from_yields_List (pair_passes a.n a.detector.now) _ _ c.all.result c.all.ensures.ran places (λ x b q k. search (rules, tests))
+    ∙ all_pairs a.n a.detector.now

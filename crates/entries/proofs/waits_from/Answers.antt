@@ -1,4 +1,5 @@
--- `entries::waits_from` meets its contract: a place below the count is found exactly if the key waits. Assumes nothing.
+-- `entries::waits_from` meets its contract: a place is found exactly if the key waits. Assumes nothing.
+use mathlib.Core.Path.{◌∙◌}
 use Prim.Native.Nat.{◌-◌, ◌*◌}
 use Rattle.entries.proofs.Queue.{waits}
 use Rattle.entries.proofs.waits_from.Goals as goal
@@ -6,4 +7,4 @@ use Rattle.entries.proofs.waits_from.Goals as goal
 pub returns : goal.returns
 returns c =
     let a = c.args in
-    waits a.x (a.n - a.from) c.place_of.result (3 * a.from) a.queue.now c.place_of.ensures
+    c.is_some.ensures ∙ waits a.x (a.n - a.from) (3 * a.from) c.place_of.result a.queue.now c.place_of.ensures

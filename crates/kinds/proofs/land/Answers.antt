@@ -11,8 +11,8 @@ returns c =
     let a = s.args in
     let w = s.requires.ready in
     record {
-      table = c.put_two.ensures;
-      queue = c.close_gap.ensures ∙ front_gone entry_form entry_lawful a.ql a.queue.now w.queue w.queue_in s.requires.ql_nonzero;
-      detector = c.clear.ensures ∙ all_gone pair_form pair_lawful a.dl a.detector.now w.detector w.detector_in;
+      table = c.put.ensures;
+      queue = c.close_gap.ensures ∙ front_gone entry_form entry_lawful a.lengths.queue a.queue.now w.queue w.queue_in s.requires.some_wait;
+      detector = c.clear.ensures ∙ all_gone pair_form pair_lawful a.lengths.detector a.detector.now w.detector w.detector_in;
       answer = refl;
     }

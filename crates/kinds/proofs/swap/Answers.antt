@@ -13,9 +13,9 @@ returns c =
     let a = s.args in
     let w = s.requires.ready in
     record {
-      table = c.put_two.ensures;
-      queue = c.put_three.ensures ∙ front_over entry_form entry_lawful a.ql a.queue.now w.queue w.queue_in s.requires.ql_nonzero (entry _ _ _);
-      detector = c.put_two-2.ensures ∙ one_behind pair_form pair_lawful a.dl a.detector.now w.detector w.detector_in
-          (omega (arith, s.requires.dl_in_bounds)) (pair a.y a.b);
+      table = c.put.ensures;
+      queue = c.put-2.ensures ∙ front_over entry_form entry_lawful a.lengths.queue a.queue.now w.queue w.queue_in s.requires.some_wait (entry _ _ _);
+      detector = c.put-3.ensures ∙ one_behind pair_form pair_lawful a.lengths.detector a.detector.now w.detector w.detector_in
+          (omega (arith, s.requires.detector_in_bounds)) (pair a.front.key a.front.side);
       answer = refl;
     }

@@ -1,4 +1,4 @@
--- `layout::place_of` meets its contract: the search of the n entries answers what the search from place i on does. The measure is n - i. Assumes nothing.
+-- `layout::place_of` meets its contract: the first equal key answers, and at the end there is none. Assumes nothing.
 use mathlib.Core.Path.{sym, ◌∙◌}
 use native.Mathlib.Omega.{arith}
 use Rattle.layout.proofs.Searches.{place_here, place_past, place_end}
@@ -8,16 +8,16 @@ pub returns-then-ws-i : goal.returns-then-ws-i
 returns-then-ws-i c =
     let a = c.args in
     let o = c.loop-i in
-    record { within = omega arith; place = sym (o.invariant.1 ∙ place_here a.x a.ws.now a.n o.i c.loop-i-test.true c.if-ws-i.true) }
+    record { within = omega arith; place = sym (o.invariant ∙ place_here a.x a.ws.now a.n o.i c.loop-i-test.true c.if-ws-i.true) }
 
 pub loop-i-preserved : goal.loop-i-preserved
 loop-i-preserved c =
     let a = c.args in
     let o = c.loop-i in
-    (omega arith, o.invariant.1 ∙ place_past a.x a.ws.now a.n o.i c.loop-i-test.true c.if-ws-i.false)
+    o.invariant ∙ place_past a.x a.ws.now a.n o.i c.loop-i-test.true c.if-ws-i.false
 
 pub returns : goal.returns
 returns c =
     let a = c.args in
     let o = c.loop-i in
-    record { within = omega arith; place = sym (o.invariant.1 ∙ place_end a.x a.ws.now a.n o.i c.loop-i-test.false) }
+    record { within = tt; place = sym (o.invariant ∙ place_end a.x a.ws.now a.n o.i (omega arith)) }

@@ -11,6 +11,6 @@ returns c =
     let a = c.args in
     let w = c.requires in
     record {
-      queue = c.clear.ensures ∙ packed_clear entry_form entry_lawful (length a.queue.now) a.ql a.queue.now refl w.ql_in_bounds.0;
-      detector = c.clear-2.ensures ∙ packed_clear pair_form pair_lawful (length a.detector.now) a.dl a.detector.now refl w.dl_in_bounds.0;
+      queue = c.clear.ensures ∙ packed_clear entry_form entry_lawful (length a.queue.now) a.lengths.queue a.queue.now refl w.queue_in_bounds.0;
+      detector = c.clear-2.ensures ∙ packed_clear pair_form pair_lawful (length a.detector.now) a.lengths.detector a.detector.now refl w.detector_in_bounds.0;
     }

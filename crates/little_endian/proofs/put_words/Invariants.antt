@@ -1,11 +1,7 @@
 -- The words put so far. Assumes nothing.
-use Rattle.std.proofs.Common.{◌-◌, ◌≤◌, length}
 use Rattle.std.proofs.Math.Seq.{paste}
 use Rattle.little_endian.specs.Image.{words_of, Holds}
 use Rattle.little_endian.proofs.put_words.Given as goal
 
 abbrev pub invariant-loop-j : goal.invariant-loop-j
-invariant-loop-j l = (l.j ≤ length l.src) × Holds l.fn.image l.image (paste (words_of l.fn.image) l.from l.src l.j)
-
-abbrev pub decreases-loop-j : goal.decreases-loop-j
-decreases-loop-j l = length l.src - l.j
+invariant-loop-j l = Holds l.fn.image l.image (paste (words_of l.fn.image) l.from l.src l.j)

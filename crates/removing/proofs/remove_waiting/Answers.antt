@@ -6,4 +6,4 @@ pub returns : goal.returns
 returns c =
     let s = c in
     let a = s.args in
-    entry_gone a.c a.j a.queue.now a.detector.now _ _ _ s.requires.j_bound s.requires.rooms_fit c.tidy.ensures c.close_gap.ensures c.reply.ensures
+    entry_gone a.c a.j a.queue.now a.detector.now _ _ _ s.requires.j_bound s.requires.rooms_fit c.tidy.ensures c.close_gap.ensures (rw c.at_rest.ensures)

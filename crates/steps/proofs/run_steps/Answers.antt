@@ -1,16 +1,36 @@
--- `steps::run_steps` meets its contract. `Going` is the loop's invariant: the run from the entry is the steps done, and then a run of what is left.
--- Assumes nothing.
+-- `steps::run_steps` meets its contract: a step takes the loop on, and it ends where the budget is spent or nothing waits. Assumes nothing.
+use mathlib.Core.Path.{◌≡◌, subst}
+use Prim.Native.Nat.{ℕ}
 use native.Mathlib.Nat.{pos_of_ne-zero}
-use Rattle.steps.proofs.Going.{goes, ends, idles}
+use native.Mathlib.Omega.{arith}
+use Rattle.layout.specs.Memory.{words}
+use Rattle.layout.proofs.Handing.{then_same}
+use Rattle.std.proofs.Common.{rules}
+use Rattle.steps.proofs.Going.{Going, begins, goes, ends, idles}
 use Rattle.steps.proofs.run_steps.Goals as goal
 
-pub returns-then-ql-eq0 : goal.returns-then-ql-eq0
-returns-then-ql-eq0 c = idles c.loop-steps.invariant c.if-ql-eq0.true
+pub loop-steps-init : goal.loop-steps-init
+loop-steps-init c =
+    let q = c.requires in
+    record { going = begins q.tables_ready q.detector_len q.ready; same = search rules }
 
 pub loop-steps-preserved : goal.loop-steps-preserved
 loop-steps-preserved c =
+    let i = c.loop-steps.invariant in
     let a = c.one_step-turn in
-    goes c.loop-steps.invariant a.result c.loop-steps-test.true (pos_of_ne-zero c.if-ql-eq0.false) a.ensures a.auto.t0 a.auto.t1 c.move_of-moves.ensures.value
+    let e = a.ensures in
+    record {
+      going = goes i.going (words a.new.m) a.result c.loop-steps-test.true (pos_of_ne-zero c.if-lengths-eq0.false) e.words e.same.t0_len e.same.t1_len
+          c.move_of-moves.ensures.value;
+      same = then_same i.same e.same;
+    }
 
-pub returns : goal.returns
-returns c = ends c.loop-steps.invariant c.loop-steps-test.false
+pub returns-then-lengths-eq0-clause-words : goal.returns-then-lengths-eq0-clause-words
+returns-then-lengths-eq0-clause-words c = idles c.loop-steps.invariant.going c.if-lengths-eq0.true
+
+pub returns-clause-words : goal.returns-clause-words
+returns-clause-words c =
+    let i = c.loop-steps in
+    let l = c.args in
+    let all : i.steps ≡ l.budget = omega arith in
+    ends (subst (λ (k : ℕ). Going l.f l.room l.budget l.lengths.queue l.lengths.detector (words l.m.now) (words i.m) i.lengths.queue i.lengths.detector k i.moves) all i.invariant.going)

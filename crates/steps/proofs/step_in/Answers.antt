@@ -7,21 +7,21 @@ pub returns-then-t-i-eq0 : goal.returns-then-t-i-eq0
 returns-then-t-i-eq0 c o =
     let s = c in
     let a = s.args in
-    lands a.r a.room a.i a.b a.ql a.dl a.t.now a.queue.now a.detector.now o s.requires.t_len.0 s.requires.t_len.1 s.requires.ready s.requires.ql_nonzero
-    _ _ _ _ c.if-t-i-eq0.true c.land.ensures
+    lands a.r a.room a.i a.lengths.queue a.lengths.detector a.table a.t.now a.queue.now a.detector.now o s.requires.t_len.0 s.requires.t_len.1 s.requires.ready
+    s.requires.some_wait _ _ _ _ c.if-t-i-eq0.true c.land.ensures
 
 pub returns-then-must_stop : goal.returns-then-must_stop
 returns-then-must_stop c o =
     let s = c in
     let a = s.args in
     let stop = sym c.must_stop.ensures ∙ c.if-must_stop.true in
-    sets_aside a.r a.room a.i a.b a.ql a.dl a.t.now a.queue.now a.detector.now o s.requires.t_len.0 s.requires.t_len.1 s.requires.ready s.requires.ql_nonzero
-    _ _ _ _ c.if-t-i-eq0.false s.requires.b_bound stop c.set_aside.ensures refl
+    sets_aside a.r a.room a.i a.lengths.queue a.lengths.detector a.table a.t.now a.queue.now a.detector.now o s.requires.t_len.0 s.requires.t_len.1
+    s.requires.ready s.requires.some_wait _ _ _ _ c.if-t-i-eq0.false stop (rw c.from.ensures at c.set_aside.ensures) refl
 
 pub returns : goal.returns
 returns c o =
     let s = c in
     let a = s.args in
     let on = sym c.must_stop.ensures ∙ c.if-must_stop.false in
-    swaps a.r a.room a.i a.b a.ql a.dl a.t.now a.queue.now a.detector.now o s.requires.t_len.0 s.requires.t_len.1 s.requires.ready s.requires.ql_nonzero
-    _ _ _ _ c.if-t-i-eq0.false s.requires.b_bound on c.swap.ensures
+    swaps a.r a.room a.i a.lengths.queue a.lengths.detector a.table a.t.now a.queue.now a.detector.now o s.requires.t_len.0 s.requires.t_len.1
+    s.requires.ready s.requires.some_wait _ _ _ _ c.if-t-i-eq0.false on (rw c.from.ensures at c.swap.ensures)

@@ -6,4 +6,4 @@ use Rattle.words.proofs.close_gap.Goals as goal
 pub returns : goal.returns
 returns c =
     let a = c.args in
-    c.clear.ensures ∙ rw c.move_up.ensures (closes a.at a.w a.end a.ws.now c.requires.0 c.requires.1)
+    c.clear.ensures ∙ rw c.copy_within.ensures.after (closes a.at a.w a.end a.ws.now c.requires.0 c.requires.1)

@@ -1,12 +1,9 @@
--- `store::Control::after` gives back the record with the new lengths. Said and not searched, so that a refusal names what differs. Assumes nothing.
-use Rattle.finding.specs.Inner.{told_by}
-use Rattle.store.specs.Memory.{with_lens}
+-- `store::Control::after` gives back the record with the new lengths. Assumes nothing.
+use Rattle.std.proofs.Common.{ap}
+use Rattle.finding.specs.Inner.{told_under}
+use Rattle.store.specs.Inner.{carried}
 use Rattle.store.proofs.Control.after.Goals as goal
 
 pub returns : goal.returns
-unfolding told_by
-returns c =
-    let a = c.args in
-    let queue = c.queue_len.ensures in
-    let detector = c.detector_len.ensures in
-    λ i. record { control = with_lens a.self (queue i) (detector i); number = a.d.number; value = a.d.value; steps = a.d.steps; moves = a.d.moves }
+unfolding told_under
+returns c = rw (c.queue_len.ensures, c.detector_len.ensures) (ap (carried c.args.self) c.told-number.ensures)

@@ -8,24 +8,23 @@ use Rattle.store.specs.Calls.{found}
 use Rattle.store.proofs.Carrying.{refused_by, fits_by, keeps_by}
 use Rattle.store.proofs.Control.find.Goals as goal
 
-pub returns-then-k-ne0 : goal.returns-then-k-ne0
-unfolding found
-returns-then-k-ne0 c =
-    let a = c.args in
-    let m = lent a.t0.now a.t1.now a.queue.now a.detector.now in
-    refused_by a.self m c.functions-f.ensures c.rooms-c.ensures c.fault-k.ensures _ c.if-k-ne0.true c.reply.ensures
-
 pub find-requires : goal.find-requires
 find-requires c =
     let a = c.args in
     let m = lent a.t0.now a.t1.now a.queue.now a.detector.now in
-    let fit = fits_by a.self m c.functions-f.ensures c.rooms-c.ensures c.fault-k.ensures c.if-k-ne0.false in
+    let fit = fits_by a.self m c.fault.ensures c.in-Ok.is c.from-f.ensures c.from.ensures in
     record { tables_ready = tables_ready _ _ m fit; queue_len_in_bounds = queue_bounds _ _ m fit }
 
-pub returns : goal.returns
+pub returns-in-Ok : goal.returns-in-Ok
 unfolding found
-returns c =
+returns-in-Ok c =
     let a = c.args in
     let m = lent a.t0.now a.t1.now a.queue.now a.detector.now in
-    keeps_by a.self m c.functions-f.ensures c.rooms-c.ensures c.fault-k.ensures c.if-k-ne0.false c.after.ensures (λ n s. (find n a.x s).answer)
-    (ap (inner m) (c.find.ensures a.detector.now))
+    keeps_by a.self m c.fault.ensures c.in-Ok.is c.from-f.ensures c.from.ensures _ c.after.ensures (λ n s. (find n a.x s).answer) (ap (inner m) (c.find.ensures a.detector.now))
+
+pub returns-in-Err : goal.returns-in-Err
+unfolding found
+returns-in-Err c =
+    let a = c.args in
+    let m = lent a.t0.now a.t1.now a.queue.now a.detector.now in
+    refused_by a.self m c.fault.ensures c.in-Err.is _ c.refused.ensures
