@@ -21,42 +21,47 @@ use Rattle.layout.proofs.Ready.{one_behind}
 use Rattle.kinds.specs.Shape.{Ready, entry}
 use Rattle.steps.specs.Shape.{Holds}
 use Rattle.steps.proofs.Going.{holds_store}
-use Rattle.numbers.specs.declared.Functions.{Functions}
 use Rattle.layout.specs.Memory.{Lent, lent, words_in, entries_in}
-use Rattle.numbers.specs.declared.Rooms.{Rooms}
-use Rattle.finding.specs.Inner.{numbers_of, store_of, with_lens, Outcome, outcome, answered, leaves, FitIn, Sees}
+use Rattle.numbers.specs.declared.Setup.{Setup}
+use Rattle.finding.specs.Inner.{numbers_of, store_of, setup_with, with_lens, Outcome, outcome, answered, leaves, FitIn, Sees}
 use Rattle.finding.specs.declared.Seen.{Seen}
 use Rattle.finding.proofs.Searching.{as_code, held}
 use Rattle.settling.specs.Ran.{ran_outcome}
 use Rattle.settling.proofs.Lying.{held_fit, held_ready}
 
 -- the entry (x, v, 0) put behind those that wait
-module _ (f : Functions) (c : Rooms) (x v : ℕ) (t0 t1 q d q' : List ℕ) (more : c.lengths.queue < c.queue_room) (fit : FitIn f c (lent t0 t1 q d))
-    (ready : Ready c.lengths.queue c.lengths.detector q d) (put : q' ≡ sets q (3 * c.lengths.queue) (x ∷ v ∷ 0 ∷ [])) where
-  abbrev longer : Rooms
-  longer = with_lens c (c.lengths.queue + 1) c.lengths.detector
+module _ (setup : Setup) (x v : ℕ) (t0 t1 q d q' : List ℕ) (more : setup.rooms.lengths.queue < setup.rooms.queue_room) (fit : FitIn setup (lent t0 t1 q d))
+    (ready : Ready setup.rooms.lengths.queue setup.rooms.lengths.detector q d) (put : q' ≡ sets q (3 * setup.rooms.lengths.queue) (x ∷ v ∷ 0 ∷ [])) where
+  abbrev longer : Setup
+  longer = setup_with setup.functions (with_lens setup.rooms (setup.rooms.lengths.queue + 1) setup.rooms.lengths.detector)
 
-  joined_holds : Holds f.r (length q) (length d) (joined x v (store_of f c (lent t0 t1 q d))) t0 t1 q' d (c.lengths.queue + 1) c.lengths.detector
+  joined_holds : Holds setup.functions.r (length q) (length d) (joined x v (store_of setup (lent t0 t1 q d))) t0 t1 q' d
+      (setup.rooms.lengths.queue + 1) setup.rooms.lengths.detector
   joined_holds =
       let w = fit.rooms in record {
         first = refl;
         second = refl;
-        queue = put ∙ one_behind entry_form entry_lawful c.lengths.queue q ready.queue ready.queue_in (omega arith) (entry x v 0);
+        queue = put ∙ one_behind entry_form entry_lawful setup.rooms.lengths.queue q ready.queue ready.queue_in (omega arith) (entry x v 0);
         detector = ready.detector;
-        queue_len = omega (arith, length-append (entries_in c.lengths.queue q) (entry x v 0 ∷ []), length-read_many entry_form c.lengths.queue q);
-        detector_len = sym (length-read_many pair_form c.lengths.detector d);
+        queue_len = omega (
+          arith,
+          length-append (entries_in setup.rooms.lengths.queue q) (entry x v 0 ∷ []),
+          length-read_many entry_form setup.rooms.lengths.queue q,
+        );
+        detector_len = sym (length-read_many pair_form setup.rooms.lengths.detector d);
       }
 
-  pub joined_fit : FitIn f longer (lent t0 t1 q' d)
-  joined_fit = held_fit f c (c.lengths.queue + 1) t0 t1 q d q' d (joined x v (store_of f c (lent t0 t1 q d))) fit (omega arith) joined_holds
+  pub joined_fit : FitIn longer (lent t0 t1 q' d)
+  joined_fit = held_fit setup (setup.rooms.lengths.queue + 1) t0 t1 q d q' d (joined x v (store_of setup (lent t0 t1 q d))) fit (omega arith) joined_holds
 
-  pub joined_ready : Ready (c.lengths.queue + 1) c.lengths.detector q' d
-  joined_ready = held_ready f c (c.lengths.queue + 1) t0 t1 q d q' d (joined x v (store_of f c (lent t0 t1 q d))) fit (omega arith) joined_holds
+  pub joined_ready : Ready (setup.rooms.lengths.queue + 1) setup.rooms.lengths.detector q' d
+  joined_ready = held_ready setup (setup.rooms.lengths.queue + 1) t0 t1 q d q' d (joined x v (store_of setup (lent t0 t1 q d))) fit (omega arith) joined_holds
 
-  pub joined_runs : {s : Store} {o : Outcome} → store_of f c (lent t0 t1 q d) ≡ s → o ≡ ran_outcome longer (run (numbers_of f longer) c.step_limit (store_of f longer (lent t0 t1 q' d)))
-      → o ≡ ran_outcome c (run (numbers_of f c) c.step_limit (joined x v s))
+  pub joined_runs : {s : Store} {o : Outcome} → store_of setup (lent t0 t1 q d) ≡ s
+      → o ≡ ran_outcome longer.rooms (run (numbers_of longer) setup.rooms.step_limit (store_of longer (lent t0 t1 q' d)))
+      → o ≡ ran_outcome setup.rooms (run (numbers_of setup) setup.rooms.step_limit (joined x v s))
   unfolding words_in
-  joined_runs is e = e ∙ ap (λ s. ran_outcome c (run (numbers_of f c) c.step_limit s)) (holds_store joined_holds ∙ ap (joined x v) is)
+  joined_runs is e = e ∙ ap (λ s. ran_outcome setup.rooms (run (numbers_of setup) setup.rooms.step_limit s)) (holds_store joined_holds ∙ ap (joined x v) is)
 
 -- define, by the value that the search saw
 module _ (n : Numbers) (x v : ℕ) (s : Store) where
@@ -79,34 +84,38 @@ module _ (n : Numbers) (x v : ℕ) (s : Store) where
     define_new (some held) e says = cc
 
 -- the same of words, k being the code's test of the key
-module _ (f : Functions) (c : Rooms) (x v : ℕ) (m : Lent) {k : Bool} (test : k ≡ good_key x) where
+module _ (setup : Setup) (x v : ℕ) (m : Lent) {k : Bool} (test : k ≡ good_key x) where
   abbrev Defines : Outcome → Type 0
-  Defines o = o ≡ leaves c m (define (numbers_of f c) x v (store_of f c m))
+  Defines o = o ≡ leaves setup.rooms m (define (numbers_of setup) x v (store_of setup m))
 
-  pub refuses_bad : not k ≡ true → Defines (outcome m (answered c (answer 4 0 0 0)))
+  pub refuses_bad : not k ≡ true → Defines (outcome m (answered setup.rooms (answer 4 0 0 0)))
   unfolding leaves
-  refuses_bad bad = sym (ap (leaves c m) (define_bad (numbers_of f c) x v (store_of f c m) (sym test ∙ not-true k bad)))
+  refuses_bad bad = sym (ap (leaves setup.rooms m) (define_bad (numbers_of setup) x v (store_of setup m) (sym test ∙ not-true k bad)))
 
-  module _ (good : not k ≡ false) {s : Seen} (sees : Sees f c x m s) where
-    pub refuses_held : {u : ℕ} → s.value ≡ Some u → Defines (outcome m (answered c (answer 5 u 0 0)))
+  module _ (good : not k ≡ false) {s : Seen} (sees : Sees setup x m s) where
+    pub refuses_held : {u : ℕ} → s.value ≡ Some u → Defines (outcome m (answered setup.rooms (answer 5 u 0 0)))
     unfolding leaves
     refuses_held h =
-        sym (ap (leaves c m) (define-held (numbers_of f c) x v (store_of f c m) (sym test ∙ not-false k good) _ refl (held test good sees ∙ h)))
+        sym (ap (leaves setup.rooms m) (define-held (numbers_of setup) x v (store_of setup m) (sym test ∙ not-false k good) _ refl (held test good sees ∙ h)))
 
     module _ (absent : s.value ≡ None) where
-      waits : length (entries_in c.lengths.queue m.queue) ≡ c.lengths.queue
-      waits = length-read_many entry_form c.lengths.queue m.queue
+      waits : length (entries_in setup.rooms.lengths.queue m.queue) ≡ setup.rooms.lengths.queue
+      waits = length-read_many entry_form setup.rooms.lengths.queue m.queue
 
-      placed_at : (b : Bool) → leb c.queue_room (length (entries_in c.lengths.queue m.queue)) ≡ b
-          → define (numbers_of f c) x v (store_of f c m) ≡ refuse_if b 6 (store_of f c m) (accepted_run (run (numbers_of f c) c.step_limit (joined x v (store_of f c m))))
+      placed_at : (b : Bool) → leb setup.rooms.queue_room (length (entries_in setup.rooms.lengths.queue m.queue)) ≡ b
+          → define (numbers_of setup) x v (store_of setup m) ≡ refuse_if b 6 (store_of setup m)
+          (accepted_run (run (numbers_of setup) setup.rooms.step_limit (joined x v (store_of setup m))))
       placed_at b e =
-          define_new (numbers_of f c) x v (store_of f c m) (sym test ∙ not-false k good) _ refl (held test good sees ∙ absent)
-          ∙ ap (λ z. refuse_if z 6 (store_of f c m) (accepted_run (run (numbers_of f c) c.step_limit (joined x v (store_of f c m))))) e
+          define_new (numbers_of setup) x v (store_of setup m) (sym test ∙ not-false k good) _ refl (held test good sees ∙ absent)
+          ∙ ap (λ z. refuse_if z 6 (store_of setup m) (accepted_run (run (numbers_of setup) setup.rooms.step_limit (joined x v (store_of setup m))))) e
 
-      pub refuses_full : c.queue_room ≤ c.lengths.queue → Defines (outcome m (answered c (answer 6 0 0 0)))
+      pub refuses_full : setup.rooms.queue_room ≤ setup.rooms.lengths.queue → Defines (outcome m (answered setup.rooms (answer 6 0 0 0)))
       unfolding leaves
-      refuses_full l = sym (ap (leaves c m) (placed_at true (le-leb c.queue_room (length (entries_in c.lengths.queue m.queue)) (omega (arith, waits)))))
+      refuses_full l = sym (ap (leaves setup.rooms m) (placed_at true
+          (le-leb setup.rooms.queue_room (length (entries_in setup.rooms.lengths.queue m.queue)) (omega (arith, waits)))))
 
-      pub defines : {o : Outcome} → c.lengths.queue < c.queue_room → o ≡ ran_outcome c (run (numbers_of f c) c.step_limit (joined x v (store_of f c m))) → Defines o
+      pub defines : {o : Outcome} → setup.rooms.lengths.queue < setup.rooms.queue_room
+          → o ≡ ran_outcome setup.rooms (run (numbers_of setup) setup.rooms.step_limit (joined x v (store_of setup m))) → Defines o
       unfolding leaves
-      defines l e = e ∙ sym (ap (leaves c m) (placed_at false (lt-leb c.queue_room (length (entries_in c.lengths.queue m.queue)) (omega (arith, waits)))))
+      defines l e = e ∙ sym (ap (leaves setup.rooms m) (placed_at false
+          (lt-leb setup.rooms.queue_room (length (entries_in setup.rooms.lengths.queue m.queue)) (omega (arith, waits)))))

@@ -6,8 +6,7 @@ use native.Mathlib.Omega.{arith}
 use borrow.Author.Tests.{eq-eqb}
 use lib.ListN.{length, get_or, set}
 use lib.Seq.{sets}
-use Rattle.numbers.specs.declared.Functions.{Functions}
-use Rattle.numbers.specs.declared.Rooms.{Rooms}
+use Rattle.numbers.specs.declared.Setup.{Setup}
 use Rattle.numbers.specs.Homes.{home0}
 use Rattle.numbers.proofs.Home.{home0_in_table}
 use Rattle.rules.specs.Store.{table_0, Cell, cell_at, Store, Numbers}
@@ -48,24 +47,26 @@ cell_written r i x v t size h =
     ap (λ ws. sets ws (2 * i) (x ∷ v ∷ [])) (sym (write_all cell_form cell_lawful r t size))
     ∙ sym (write_set cell_form cell_lawful (cells_in r t) i (record { key = x; value = v }) (omega (arith, length-read_many cell_form r t)))
 
-module _ (f : Functions) (c : Rooms) (x v : ℕ) (t0 t1 q d : List ℕ) {i : ℕ} (fit : FitIn f c (lent t0 t1 q d)) (none : c.lengths.queue ≡ 0)
-    (home : i ≡ home0 f x) (free : get_or t0 (2 * i) 0 ≡ 0) where
-  inside : i < f.r
-  inside = rw home (home0_in_table f x fit.some)
+module _ (setup : Setup) (x v : ℕ) (t0 t1 q d : List ℕ) {i : ℕ} (fit : FitIn setup (lent t0 t1 q d)) (none : setup.rooms.lengths.queue ≡ 0)
+    (home : i ≡ home0 setup.functions x) (free : get_or t0 (2 * i) 0 ≡ 0) where
+  inside : i < setup.functions.r
+  inside = rw home (home0_in_table setup.functions x fit.some)
 
-  waits_none : entries_in c.lengths.queue q ≡ []
+  waits_none : entries_in setup.rooms.lengths.queue q ≡ []
   unfolding read_many
   waits_none = ap (λ k. read_many entry_form k q) none
 
-  free_home : (cell_at (store_of f c (lent t0 t1 q d)).tables table_0 (home0 f x)).key ≡ 0
-  free_home = rw (sym home) (ap (λ (e : Cell). e.key) (cell_read f.r i t0 inside) ∙ free)
+  free_home : (cell_at (store_of setup (lent t0 t1 q d)).tables table_0 (home0 setup.functions x)).key ≡ 0
+  free_home = rw (sym home) (ap (λ (e : Cell). e.key) (cell_read setup.functions.r i t0 inside) ∙ free)
 
   pub seated_at_once : {t q' d' : List ℕ} {a : Told} → t ≡ sets t0 (2 * i) (x ∷ v ∷ []) → Tidied 0 0 q d q' d' → a ≡ tells 0 0 0 0 1 0
-      → outcome (lent t t1 q' d') a ≡ ran_outcome c (run (numbers_of f c) c.step_limit (joined x v (store_of f c (lent t0 t1 q d))))
+      → outcome (lent t t1 q' d') a ≡ ran_outcome setup.rooms (run (numbers_of setup) setup.rooms.step_limit (joined x v (store_of setup (lent t0 t1 q d))))
   unfolding words_in read_many
   seated_at_once e tidy is =
-      (λ j. outcome (lent ((e ∙ cell_written f.r i x v t0 fit.first inside ∙ ap (λ k. write_many cell_form (set (cells_in f.r t0) k (record { key = x; value = v }))) home) j)
-      (sym (write_all cell_form cell_lawful f.r t1 fit.second) j)
+      (λ j. outcome (lent ((e ∙ cell_written setup.functions.r i x v t0 fit.first inside
+      ∙ ap (λ k. write_many cell_form (set (cells_in setup.functions.r t0) k (record { key = x; value = v }))) home) j)
+      (sym (write_all cell_form cell_lawful setup.functions.r t1 fit.second) j)
       ((tidy.queue ∙ ap (λ k. packed entry_form k []) fit.rooms.queue) j) ((tidy.detector ∙ ap (λ k. packed pair_form k []) fit.rooms.detector) j))
       (is j))
-      ∙ ap (ran_outcome c) (sym (seats (numbers_of f c) x v (store_of f c (lent t0 t1 q d)) waits_none free_home c.step_limit fit.limit_some))
+      ∙ ap (ran_outcome setup.rooms) (sym (seats (numbers_of setup) x v (store_of setup (lent t0 t1 q d))
+      waits_none free_home setup.rooms.step_limit fit.limit_some))

@@ -1,12 +1,12 @@
 -- Document 01, "Change: the value at the place that find would use is replaced; the old one is answered", on words. Assumes nothing.
 use Rattle.std.specs.Prelude.{ℕ, ◌+◌, ◌*◌, ◌≡◌, cond, List, get_or, set}
-use Rattle.numbers.specs.declared.Functions.{Functions}
 use Rattle.rules.specs.Store.{table_0, table_1}
 use Rattle.rules.specs.Search.{Place, in_table, waiting_at, nowhere, search}
 use Rattle.rules.specs.Calls.{Answer as RulesAnswer, answer}
 use Rattle.rules.specs.Keeps.{is_accepted}
 use Rattle.layout.specs.Memory.{Lent, lent}
 use Rattle.numbers.specs.declared.Rooms.{Rooms}
+use Rattle.numbers.specs.declared.Setup.{Setup}
 use Rattle.finding.specs.Inner.{numbers_of, store_of, answered, Outcome, outcome, keeps, Told}
 
 -- the words with another value at a place: places past the lengths stay as they are
@@ -17,8 +17,9 @@ put_value (waiting_at j) v m = lent m.table0 m.table1 (set m.queue (3 * j + 1) v
 put_value nowhere v m = m
 
 -- what a change leaves, a being the rules' answer
-unfoldable pub changing : Functions → Rooms → ℕ → ℕ → Lent → RulesAnswer → Outcome
-changing f c x v m a = cond (is_accepted a) (outcome (put_value (search (numbers_of f c) x (store_of f c m)) v m) (answered c a)) (keeps c m a)
+unfoldable pub changing : Setup → ℕ → ℕ → Lent → RulesAnswer → Outcome
+changing setup x v m a =
+    cond (is_accepted a) (outcome (put_value (search (numbers_of setup) x (store_of setup m)) v m) (answered setup.rooms a)) (keeps setup.rooms m a)
 
 -- another value in entry i of width w, the old one answered
 pub record Exchanged (c : Rooms) (w i v : ℕ) (ws ws' : List ℕ) (a : Told) : Type 0 where

@@ -1,4 +1,5 @@
-// Change, the record and the lengths being accepted. Inner functions: their callers show what they require.
+// Change, the record and the lengths being accepted. Inner functions: their callers show what they require, in one clause with a name; a type that says it
+// would have to hold the record beside the buffers.
 #![tactic(auto)]
 
 ghost use Rattle.std.specs.Prelude.{◌≡◌, ◌+◌, ◌*◌, ◌≤◌, ◌<◌, length};
@@ -10,7 +11,7 @@ ghost use Rattle.changing.specs.Change.{changing, Exchanged};
 
 use finding::{Done, Place};
 use layout::Buffers;
-use numbers::{Functions, Rooms};
+use numbers::{Rooms, Setup};
 use refusals::Refusal;
 
 // Another value in entry i of width w; the old one is answered.
@@ -25,20 +26,21 @@ fn exchange(c: Rooms, w: usize, i: usize, v: u32, ws: &mut [u32]) -> Done
 }
 
 // Change: the value at the place where the key lies is replaced; the old one is answered.
-pub fn change(f: Functions, c: Rooms, x: u32, v: u32, m: &mut Buffers) -> Result<Done, Refusal>
-    requires tables_ready { TablesReady f.r m.old.t0.now m.old.t1.now }
-    requires queue_len_in_bounds { (3 * c.lengths.queue ≤ length m.old.queue.now) × (length m.old.queue.now ≤ 192) }
-    ensures outcome { let old = words m.old in outcome (words m.new) (told_by c result) ≡ changing f c x v old (change (numbers_of f c) x v (store_of f c old)).answer }
+pub fn change(setup: Setup, x: u32, v: u32, m: &mut Buffers) -> Result<Done, Refusal>
+    requires tables_ready { TablesReady setup.functions.r m.old.t0.now m.old.t1.now }
+    requires queue_len_in_bounds { (3 * setup.rooms.lengths.queue ≤ length m.old.queue.now) × (length m.old.queue.now ≤ 192) }
+    ensures outcome { let old = words m.old in
+        outcome (words m.new) (told_by setup.rooms result) ≡ changing setup x v old (change (numbers_of setup) x v (store_of setup old)).answer }
     ensures same { SameBuffers m.old m.new }
 {
     if !numbers::is_key(x) {
         return Err(Refusal::NotAKey);
     }
-    let seen = finding::search_in(f, c, x, m);
+    let seen = finding::search_in(setup, x, m);
     match seen.place {
-        Place::Table0(i) => Ok(exchange(c, 2, i, v, m.t0)),
-        Place::Table1(i) => Ok(exchange(c, 2, i, v, m.t1)),
-        Place::Waiting(j) => Ok(exchange(c, 3, j, v, m.queue)),
+        Place::Table0(i) => Ok(exchange(setup.rooms, 2, i, v, m.t0)),
+        Place::Table1(i) => Ok(exchange(setup.rooms, 2, i, v, m.t1)),
+        Place::Waiting(j) => Ok(exchange(setup.rooms, 3, j, v, m.queue)),
         Place::Nowhere => Err(Refusal::NotFound),
     }
 }

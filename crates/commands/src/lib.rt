@@ -1,4 +1,4 @@
-// Runs a command on a store: one function from a command to the call that it asks for. Any record, command and buffers.
+// Runs a command on a store: one function from a command to the call that it asks for. Any record, command and buffers, which are lent as to the calls.
 #![tactic(auto)]
 
 ghost use Rattle.std.specs.Prelude.{◌≡◌};

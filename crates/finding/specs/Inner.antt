@@ -1,4 +1,4 @@
--- What the inner calls ask and give. A record's numbers come as two structs: `Functions` for the homes, `Rooms` for all others. Assumes nothing.
+-- What the inner calls ask and give. A record's numbers come as one struct of two: `Functions` for the homes, `Rooms` for all others. Assumes nothing.
 use Rattle.std.specs.Prelude.{◌≡◌, ℕ, ◌+◌, ◌*◌, ◌/◌, ◌%◌, ◌<◌, ◌≤◌, Bool, cond, not, ◌&&◌, List, length, ◌==◌, slice_index, Option, Some, None, Result, Ok, Err}
 use Rattle.numbers.specs.declared.Functions.{Functions}
 use Rattle.rules.specs.Store.{table_0, table_1, Store, Numbers}
@@ -7,6 +7,7 @@ use Rattle.rules.specs.Calls.{Answer as RulesAnswer, answer, Outcome as RulesOut
 use Rattle.rules.specs.Keeps.{is_accepted}
 use Rattle.layout.specs.Memory.{Lent, lent, words_in, entries_in, homes_of, store_in}
 use Rattle.numbers.specs.declared.Rooms.{Rooms}
+use Rattle.numbers.specs.declared.Setup.{Setup}
 use Rattle.refusals.specs.declared.Refusal.{Refusal}
 use Rattle.refusals.specs.Numbers.{number_of, value_of}
 use Rattle.finding.specs.declared.Done.{Done}
@@ -14,13 +15,23 @@ use Rattle.finding.specs.declared.Place.{Place}
 use Rattle.finding.specs.declared.Seen.{Seen}
 use Rattle.finding.specs.declared.Place.TheVariants.{Table0, Table1, Waiting, Nowhere}
 
+-- the homes of one record with the other numbers of another
+abbrev pub setup_with : Functions → Rooms → Setup
+setup_with f c = record { functions = f; rooms = c }
+
 -- the numbers of a record
-abbrev pub numbers_of : Functions → Rooms → Numbers
-numbers_of f c = record { r = f.r; Q = c.queue_room; D = c.detector_room; L = c.step_limit; home = homes_of f }
+abbrev pub numbers_of : Setup → Numbers
+numbers_of setup = record {
+  r = setup.functions.r;
+  Q = setup.rooms.queue_room;
+  D = setup.rooms.detector_room;
+  L = setup.rooms.step_limit;
+  home = homes_of setup.functions;
+}
 
 -- the store that a record and words stand for
-abbrev pub store_of : Functions → Rooms → Lent → Store
-store_of f c m = store_in f.r c.lengths.queue c.lengths.detector m.table0 m.table1 m.queue m.detector
+abbrev pub store_of : Setup → Lent → Store
+store_of setup m = store_in setup.functions.r setup.rooms.lengths.queue setup.rooms.lengths.detector m.table0 m.table1 m.queue m.detector
 
 -- the words of a store
 abbrev pub words_of : Rooms → Store → Lent
@@ -47,12 +58,8 @@ abbrev pub tells : (ql dl number value steps moves : ℕ) → Told
 tells ql dl number value steps moves = record { queue_len = ql; detector_len = dl; number = number; value = value; steps = steps; moves = moves }
 
 -- the code keeps both lengths in one word, the detector's in the upper half
-unfoldable pub told_under : ℕ → Done → Told
-told_under number a = tells (a.lengths % 4294967296) (a.lengths / 4294967296) number a.value a.steps a.moves
-
--- "Accepted is 0"
-abbrev pub told_of : Done → Told
-told_of a = told_under 0 a
+unfoldable pub told_of : Done → Told
+told_of a = tells (a.lengths % 4294967296) (a.lengths / 4294967296) 0 a.value a.steps a.moves
 
 -- a refusal gives back the lengths that it received, and no steps
 abbrev pub told_by : Rooms → Result Done Refusal → Told
@@ -89,17 +96,17 @@ pub record RoomsFit (c : Rooms) (nq nd : ℕ) : Type 0 where
   pub detector_in : c.lengths.detector ≤ c.detector_room
 
 -- what an accepted record and accepted lengths say
-pub record Fit (f : Functions) (c : Rooms) (n0 n1 nq nd : ℕ) : Type 0 where
-  pub some : 0 < f.r
-  pub small : f.r ≤ 32768
-  pub limit_some : 1 ≤ c.step_limit
-  pub limit_small : c.step_limit ≤ 64
-  pub first : n0 ≡ 2 * f.r
-  pub second : n1 ≡ 2 * f.r
-  pub rooms : RoomsFit c nq nd
+pub record Fit (setup : Setup) (n0 n1 nq nd : ℕ) : Type 0 where
+  pub some : 0 < setup.functions.r
+  pub small : setup.functions.r ≤ 32768
+  pub limit_some : 1 ≤ setup.rooms.step_limit
+  pub limit_small : setup.rooms.step_limit ≤ 64
+  pub first : n0 ≡ 2 * setup.functions.r
+  pub second : n1 ≡ 2 * setup.functions.r
+  pub rooms : RoomsFit setup.rooms nq nd
 
-abbrev pub FitIn : Functions → Rooms → Lent → Type 0
-FitIn f c m = Fit f c (length m.table0) (length m.table1) (length m.queue) (length m.detector)
+abbrev pub FitIn : Setup → Lent → Type 0
+FitIn setup m = Fit setup (length m.table0) (length m.table1) (length m.queue) (length m.detector)
 
 -- a place of the code as a place of the rules
 abbrev pub place_of : Place → RulesPlace
@@ -109,16 +116,16 @@ place_of (Waiting j) = waiting_at j
 place_of Nowhere = nowhere
 
 -- a place lies within the record's tables and the waiting entries
-abbrev pub IsInside : Functions → Rooms → Place → Type 0
-IsInside f c (Table0 i) = i < f.r
-IsInside f c (Table1 i) = i < f.r
-IsInside f c (Waiting j) = j < c.lengths.queue
-IsInside f c Nowhere = Unit {0}
+abbrev pub IsInside : Setup → Place → Type 0
+IsInside setup (Table0 i) = i < setup.functions.r
+IsInside setup (Table1 i) = i < setup.functions.r
+IsInside setup (Waiting j) = j < setup.rooms.lengths.queue
+IsInside setup Nowhere = Unit {0}
 
 -- the place that the rules' search answers
-pub record Located (f : Functions) (c : Rooms) (x : ℕ) (m : Lent) (p : Place) : Type 0 where
-  pub is : place_of p ≡ search (numbers_of f c) x (store_of f c m)
-  pub within : IsInside f c p
+pub record Located (setup : Setup) (x : ℕ) (m : Lent) (p : Place) : Type 0 where
+  pub is : place_of p ≡ search (numbers_of setup) x (store_of setup m)
+  pub within : IsInside setup p
 
 -- the word that holds the value at a place of the code
 abbrev pub value_in : Lent → Place → Option ℕ
@@ -137,12 +144,12 @@ abbrev pub is_neither : (k0 k1 x : ℕ) → Bool
 is_neither k0 k1 x = not (k0 == x) && not (k1 == x)
 
 -- what the code's search gives: that place, and the value there
-pub record Sees (f : Functions) (c : Rooms) (x : ℕ) (m : Lent) (s : Seen) : Type 0 where
-  pub at : Located f c x m s.place
+pub record Sees (setup : Setup) (x : ℕ) (m : Lent) (s : Seen) : Type 0 where
+  pub at : Located setup x m s.place
   pub says : s.value ≡ value_in m s.place
 
 -- the same of the search through the queue, whatever the tables and the detector hold
 pub record SeesInQueue (c : Rooms) (x : ℕ) (q : List ℕ) (s : Seen) : Type 0 where
   pub is : place_of s.place ≡ search_queue 0 x (entries_in c.lengths.queue q)
-  pub within : (f : Functions) → IsInside f c s.place
+  pub within : (f : Functions) → IsInside (setup_with f c) s.place
   pub says : (t0 t1 d : List ℕ) → s.value ≡ value_in (lent t0 t1 q d) s.place

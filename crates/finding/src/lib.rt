@@ -1,4 +1,5 @@
-// Where a key lies, and what find answers. Inner functions: their callers show what they require.
+// Where a key lies, and what find answers. Inner functions: their callers show what they require. The queue's bounds stand in each clause: a struct of the queue
+// and its count would say them too, and ask them again where a public function makes it.
 #![tactic(auto)]
 
 ghost use Rattle.std.specs.Prelude.{◌≡◌, ℕ, ◌*◌, ◌≤◌, List, length};
@@ -8,11 +9,12 @@ ghost use Rattle.steps.specs.Shape.{TablesReady};
 ghost use Rattle.finding.specs.Inner.{numbers_of, store_of, tells, told_of, told_by, answered, is_neither, Sees, SeesInQueue};
 
 use layout::Buffers;
-use numbers::{Functions, Lengths, Rooms, Table};
+use numbers::{Lengths, Rooms, Setup, Table};
 use refusals::Refusal;
 
 // What an accepted call gives back: the lengths, the detector's in the upper half, and the fields of its answer. The record goes on to the next call, which reads
-// both lengths at once: two halves, written one after the other, would hold it up.
+// both lengths at once: two halves, written one after the other, would hold it up. (With a struct of two, settle with nothing waiting takes 1.20 of the limit's
+// time, and with one word 1.08; the bar is 1.15.)
 #[derive(Clone, Copy)]
 pub struct Done {
     pub lengths: u64,
@@ -56,20 +58,6 @@ impl Done {
     {
         Done::of(lengths, value, 0, 0)
     }
-
-    // The queue's length.
-    pub fn queue_len(self) -> u32
-        ensures { result ≡ (told_of self).queue_len }
-    {
-        (self.lengths % 4294967296) as u32
-    }
-
-    // The detector's length.
-    pub fn detector_len(self) -> u32
-        ensures { result ≡ (told_of self).detector_len }
-    {
-        (self.lengths / 4294967296) as u32
-    }
 }
 
 // Where key x, which is in no cell, lies: the queue from the front.
@@ -89,30 +77,30 @@ fn search_queue(c: Rooms, x: u32, queue: &[u32]) -> Seen
     }
 }
 
-// Whether neither key is x. One test, of a product: two would be two guesses where the keys are random.
+// Whether neither key is x. One test, of a product: two comparisons are two guesses where the keys are random (find then took 1.36 to 1.39 of the limit's time).
 fn neither(key0: u32, key1: u32, x: u32) -> bool
     ensures { result ≡ is_neither key0 key1 x }
 {
-    let off0 = std::num::wrapping_sub_u32(key0, x) as u64;
-    let off1 = std::num::wrapping_sub_u32(key1, x) as u64;
+    let off0 = key0.wrapping_sub(x) as u64;
+    let off1 = key1.wrapping_sub(x) as u64;
     off0 * off1 != 0
 }
 
 // Where key x lies: home in table 0, home in table 1, then the queue from the front. Both cells are read before any is compared, so that the value too is
-// picked and not guessed.
-pub fn search(f: Functions, c: Rooms, x: u32, t0: &[u32], t1: &[u32], queue: &[u32]) -> Seen
-    requires tables_ready { TablesReady f.r t0.now t1.now }
-    requires queue_len_in_bounds { (3 * c.lengths.queue ≤ length queue.now) × (length queue.now ≤ 192) }
-    ensures { (d : List ℕ) → Sees f c x (lent t0.now t1.now queue.now d) result }
+// picked and not guessed. The three shared slices stand singly: find, whose slices are shared, has no `Buffers` to hand on.
+pub fn search(setup: Setup, x: u32, t0: &[u32], t1: &[u32], queue: &[u32]) -> Seen
+    requires tables_ready { TablesReady setup.functions.r t0.now t1.now }
+    requires queue_len_in_bounds { (3 * setup.rooms.lengths.queue ≤ length queue.now) × (length queue.now ≤ 192) }
+    ensures { (d : List ℕ) → Sees setup x (lent t0.now t1.now queue.now d) result }
 {
-    let i = f.home_in(Table::Zero, x) as usize;
-    let j = f.home_in(Table::One, x) as usize;
+    let i = setup.functions.home_in(Table::Zero, x) as usize;
+    let j = setup.functions.home_in(Table::One, x) as usize;
     let key0 = t0[2 * i];
     let value0 = t0[2 * i + 1];
     let key1 = t1[2 * j];
     let value1 = t1[2 * j + 1];
     if neither(key0, key1, x) {
-        return search_queue(c, x, queue);
+        return search_queue(setup.rooms, x, queue);
     }
     if key0 == x {
         Seen {
@@ -128,32 +116,26 @@ pub fn search(f: Functions, c: Rooms, x: u32, t0: &[u32], t1: &[u32], queue: &[u
 }
 
 // The same in lent buffers.
-pub fn search_in(f: Functions, c: Rooms, x: u32, m: &Buffers) -> Seen
-    requires tables_ready { TablesReady f.r m.now.t0.now m.now.t1.now }
-    requires queue_len_in_bounds { (3 * c.lengths.queue ≤ length m.now.queue.now) × (length m.now.queue.now ≤ 192) }
-    ensures { Sees f c x (words m.now) result }
+pub fn search_in(setup: Setup, x: u32, m: &Buffers) -> Seen
+    requires tables_ready { TablesReady setup.functions.r m.now.t0.now m.now.t1.now }
+    requires queue_len_in_bounds { (3 * setup.rooms.lengths.queue ≤ length m.now.queue.now) × (length m.now.queue.now ≤ 192) }
+    ensures { Sees setup x (words m.now) result }
 {
-    search(f, c, x, &*m.t0, &*m.t1, &*m.queue)
+    search(setup, x, &*m.t0, &*m.t1, &*m.queue)
 }
 
 // Find: the value that the search saw.
-pub fn find(
-    f: Functions,
-    c: Rooms,
-    x: u32,
-    t0: &[u32],
-    t1: &[u32],
-    queue: &[u32],
-) -> Result<Done, Refusal>
-    requires tables_ready { TablesReady f.r t0.now t1.now }
-    requires queue_len_in_bounds { (3 * c.lengths.queue ≤ length queue.now) × (length queue.now ≤ 192) }
-    ensures { (d : List ℕ) → told_by c result ≡ answered c (find (numbers_of f c) x (store_of f c (lent t0.now t1.now queue.now d))).answer }
+pub fn find(setup: Setup, x: u32, t0: &[u32], t1: &[u32], queue: &[u32]) -> Result<Done, Refusal>
+    requires tables_ready { TablesReady setup.functions.r t0.now t1.now }
+    requires queue_len_in_bounds { (3 * setup.rooms.lengths.queue ≤ length queue.now) × (length queue.now ≤ 192) }
+    ensures { (d : List ℕ) → told_by setup.rooms result
+        ≡ answered setup.rooms (find (numbers_of setup) x (store_of setup (lent t0.now t1.now queue.now d))).answer }
 {
     if !numbers::is_key(x) {
         return Err(Refusal::NotAKey);
     }
-    match search(f, c, x, t0, t1, queue).value {
-        Some(value) => Ok(Done::at_rest(c.lengths, value)),
+    match search(setup, x, t0, t1, queue).value {
+        Some(value) => Ok(Done::at_rest(setup.rooms.lengths, value)),
         None => Err(Refusal::NotFound),
     }
 }

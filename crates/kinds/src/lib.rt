@@ -24,7 +24,7 @@ pub struct Turn {
     pub lengths: Lengths,
 }
 
-// The front entry, by its three words.
+// The front entry, by its three words. Its side stays a word and is no `Table`: `set_aside` promises what it leaves for every side word.
 #[derive(Clone, Copy)]
 pub struct Front {
     pub key: u32,

@@ -74,6 +74,13 @@ pub struct Rooms {
     pub detector_room: u32,
 }
 
+// The numbers of a control record: the home functions, and all others.
+#[derive(Clone, Copy)]
+pub struct Setup {
+    pub functions: Functions,
+    pub rooms: Rooms,
+}
+
 // The remainder by p, which is 2^31 - 1: the bits above the lowest 31 count once more. What is left of a good key's sum is below 2p.
 fn mod_p(sum: u64) -> u32
     ensures { result ≡ sum % p }

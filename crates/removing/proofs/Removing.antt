@@ -16,9 +16,9 @@ use Rattle.layout.specs.Forms.{cell_form, entry_form, pair_form, write_many, pac
 use Rattle.layout.proofs.Forms.{cell_lawful, entry_lawful, length-read_many, read_at, write_all, write_set}
 use Rattle.layout.proofs.Packed.{packed_close}
 use Rattle.steps.proofs.InTable.{cell_read}
-use Rattle.numbers.specs.declared.Functions.{Functions}
 use Rattle.layout.specs.Memory.{Lent, lent, words_in, Tidied, cells_in, entries_in, pairs_in}
 use Rattle.numbers.specs.declared.Rooms.{Rooms}
+use Rattle.numbers.specs.declared.Setup.{Setup}
 use Rattle.finding.specs.declared.Place.TheVariants.{Table0, Table1, Waiting, Nowhere}
 use Rattle.finding.specs.Inner.{numbers_of, store_of, with_lens, answered, Outcome, outcome, leaves, RoomsFit, FitIn, Located, Told}
 use Rattle.removing.specs.Gone.{CellGone, EntryGone}
@@ -93,7 +93,7 @@ cell_written r i t size h =
 entry_value : (ql j : ℕ) (q : List ℕ) → j < ql → (entry_at (entries_in ql q) j).value ≡ get_or q (3 * j + 1) 0
 entry_value ql j q h = ap (λ (e : Entry). e.value) (read_at entry_form ql j q no_entry h) ∙ simp get_or-drop
 
-module _ (f : Functions) (c : Rooms) (x : ℕ) (m : Lent) where
+module _ (setup : Setup) (x : ℕ) (m : Lent) where
   abbrev t0 : List ℕ
   t0 = m.table0
 
@@ -107,60 +107,65 @@ module _ (f : Functions) (c : Rooms) (x : ℕ) (m : Lent) where
   d = m.detector
 
   abbrev s : Store
-  s = store_of f c m
+  s = store_of setup m
 
   abbrev Removes : Outcome → Type 0
-  Removes o = o ≡ leaves c m (remove (numbers_of f c) x s)
+  Removes o = o ≡ leaves setup.rooms m (remove (numbers_of setup) x s)
 
-  pub refuses_bad : good_key x ≡ false → Removes (outcome m (answered c (answer 4 0 0 0)))
+  pub refuses_bad : good_key x ≡ false → Removes (outcome m (answered setup.rooms (answer 4 0 0 0)))
   unfolding leaves
-  refuses_bad bad = sym (ap (leaves c m) (remove_bad (numbers_of f c) x s bad))
+  refuses_bad bad = sym (ap (leaves setup.rooms m) (remove_bad (numbers_of setup) x s bad))
 
   module _ (good : good_key x ≡ true) where
-    pub refuses_absent : Located f c x m Nowhere → Removes (outcome m (answered c (answer 7 0 0 0)))
+    pub refuses_absent : Located setup x m Nowhere → Removes (outcome m (answered setup.rooms (answer 7 0 0 0)))
     unfolding leaves
-    refuses_absent l = sym (ap (leaves c m) (remove_by (numbers_of f c) x s good nowhere (sym l.is)))
+    refuses_absent l = sym (ap (leaves setup.rooms m) (remove_by (numbers_of setup) x s good nowhere (sym l.is)))
 
-    module _ (fit : FitIn f c m) where
-      waits : c.lengths.queue ≡ length (entries_in c.lengths.queue q)
-      waits = sym (length-read_many entry_form c.lengths.queue q)
+    module _ (fit : FitIn setup m) where
+      waits : setup.rooms.lengths.queue ≡ length (entries_in setup.rooms.lengths.queue q)
+      waits = sym (length-read_many entry_form setup.rooms.lengths.queue q)
 
       -- each of the words, and the record
-      removes : (p : RulesPlace) (u ql : ℕ) {t0' t1' q' d' : List ℕ} {a : Told} → p ≡ search (numbers_of f c) x s → value_at p s ≡ some u
+      removes : (p : RulesPlace) (u ql : ℕ) {t0' t1' q' d' : List ℕ} {a : Told} → p ≡ search (numbers_of setup) x s → value_at p s ≡ some u
           → t0' ≡ write_many cell_form (without p s).tables.table0 → t1' ≡ write_many cell_form (without p s).tables.table1
           → q' ≡ packed entry_form (length q) (without p s).waiting → d' ≡ packed pair_form (length d) (without p s).marked
-          → ql ≡ length (without p s).waiting → c.lengths.detector ≡ length (without p s).marked
-          → a ≡ answered (with_lens c ql c.lengths.detector) (answer 0 u 0 0) → Removes (outcome (lent t0' t1' q' d') a)
+          → ql ≡ length (without p s).waiting → setup.rooms.lengths.detector ≡ length (without p s).marked
+          → a ≡ answered (with_lens setup.rooms ql setup.rooms.lengths.detector) (answer 0 u 0 0) → Removes (outcome (lent t0' t1' q' d') a)
       unfolding leaves words_in
       removes p u ql is value e0 e1 eq ed lq ld ea =
           let fq = eq ∙ ap (λ k. packed entry_form k (without p s).waiting) fit.rooms.queue in
           let fd = ed ∙ ap (λ k. packed pair_form k (without p s).marked) fit.rooms.detector in
-          let fa = ea ∙ (λ i. answered (with_lens c (lq i) (ld i)) (answer 0 u 0 0)) in
+          let fa = ea ∙ (λ i. answered (with_lens setup.rooms (lq i) (ld i)) (answer 0 u 0 0)) in
           (λ i. outcome (lent (e0 i) (e1 i) (fq i) (fd i)) (fa i))
-          ∙ sym (ap (leaves c m) (remove_at (numbers_of f c) x s good p u (sym is) value))
+          ∙ sym (ap (leaves setup.rooms m) (remove_at (numbers_of setup) x s good p u (sym is) value))
 
-      marks : c.lengths.detector ≡ length (pairs_in c.lengths.detector d)
-      marks = sym (length-read_many pair_form c.lengths.detector d)
+      marks : setup.rooms.lengths.detector ≡ length (pairs_in setup.rooms.lengths.detector d)
+      marks = sym (length-read_many pair_form setup.rooms.lengths.detector d)
 
       module _ {i : ℕ} {t' q' d' : List ℕ} {a : Told} where
-        pub removes_first : Located f c x m (Table0 i) → CellGone c i t0 q d t' q' d' a → Removes (outcome (lent t' t1 q' d') a)
+        pub removes_first : Located setup x m (Table0 i) → CellGone setup.rooms i t0 q d t' q' d' a → Removes (outcome (lent t' t1 q' d') a)
         removes_first l g =
-            removes (in_table table_0 i) (get_or t0 (2 * i + 1) 0) c.lengths.queue l.is
-            (ap (λ (k : Cell). some k.value) (cell_read f.r i t0 l.within))
-            (g.table ∙ cell_written f.r i t0 fit.first l.within) (sym (write_all cell_form cell_lawful f.r t1 fit.second))
+            removes (in_table table_0 i) (get_or t0 (2 * i + 1) 0) setup.rooms.lengths.queue l.is
+            (ap (λ (k : Cell). some k.value) (cell_read setup.functions.r i t0 l.within))
+            (g.table ∙ cell_written setup.functions.r i t0 fit.first l.within) (sym (write_all cell_form cell_lawful setup.functions.r t1 fit.second))
             g.tidied.queue g.tidied.detector waits marks g.answer
 
-        pub removes_second : Located f c x m (Table1 i) → CellGone c i t1 q d t' q' d' a → Removes (outcome (lent t0 t' q' d') a)
+        pub removes_second : Located setup x m (Table1 i) → CellGone setup.rooms i t1 q d t' q' d' a → Removes (outcome (lent t0 t' q' d') a)
         removes_second l g =
-            removes (in_table table_1 i) (get_or t1 (2 * i + 1) 0) c.lengths.queue l.is
-            (ap (λ (k : Cell). some k.value) (cell_read f.r i t1 l.within))
-            (sym (write_all cell_form cell_lawful f.r t0 fit.first)) (g.table ∙ cell_written f.r i t1 fit.second l.within)
+            removes (in_table table_1 i) (get_or t1 (2 * i + 1) 0) setup.rooms.lengths.queue l.is
+            (ap (λ (k : Cell). some k.value) (cell_read setup.functions.r i t1 l.within))
+            (sym (write_all cell_form cell_lawful setup.functions.r t0 fit.first)) (g.table ∙ cell_written setup.functions.r i t1 fit.second l.within)
             g.tidied.queue g.tidied.detector waits marks g.answer
 
-      pub removes_waiting : {j : ℕ} {q' d' : List ℕ} {a : Told} → Located f c x m (Waiting j) → EntryGone c j q d q' d' a → Removes (outcome (lent t0 t1 q' d') a)
+      pub removes_waiting : {j : ℕ} {q' d' : List ℕ} {a : Told} → Located setup x m (Waiting j) → EntryGone setup.rooms j q d q' d' a
+          → Removes (outcome (lent t0 t1 q' d') a)
       removes_waiting {j} l g =
-          removes (waiting_at j) (get_or q (3 * j + 1) 0) (c.lengths.queue - 1) l.is (ap some (entry_value c.lengths.queue j q l.within))
-          (sym (write_all cell_form cell_lawful f.r t0 fit.first)) (sym (write_all cell_form cell_lawful f.r t1 fit.second))
+          removes (waiting_at j) (get_or q (3 * j + 1) 0) (setup.rooms.lengths.queue - 1) l.is (ap some (entry_value setup.rooms.lengths.queue j q l.within))
+          (sym (write_all cell_form cell_lawful setup.functions.r t0 fit.first)) (sym (write_all cell_form cell_lawful setup.functions.r t1 fit.second))
           g.queue g.detector
-          (let h : j < c.lengths.queue = l.within in omega (arith, waits, dropped_length (entries_in c.lengths.queue q) j (omega (arith, waits))))
+          (let h : j < setup.rooms.lengths.queue = l.within in omega (
+            arith,
+            waits,
+            dropped_length (entries_in setup.rooms.lengths.queue q) j (omega (arith, waits)),
+          ))
           marks g.answer

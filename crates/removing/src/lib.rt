@@ -1,4 +1,5 @@
-// Remove, the record and the lengths being accepted. Inner functions: their callers show what they require.
+// Remove, the record and the lengths being accepted. Inner functions: their callers show what they require, in one clause with a name; a type that says it
+// would have to hold the record beside the buffers.
 #![tactic(auto)]
 
 ghost use Rattle.std.specs.Prelude.{◌≡◌, ◌+◌, ◌*◌, ◌<◌, length};
@@ -9,7 +10,7 @@ ghost use Rattle.removing.specs.Gone.{CellGone, EntryGone};
 
 use finding::{Done, Place};
 use layout::Buffers;
-use numbers::{Functions, Lengths, Rooms};
+use numbers::{Lengths, Rooms, Setup};
 use refusals::Refusal;
 
 // A cell becomes 0, 0; its value is answered.
@@ -42,19 +43,20 @@ fn remove_waiting(c: Rooms, j: usize, queue: &mut [u32], detector: &mut [u32]) -
 }
 
 // Remove: the entry at the place where the key lies goes; its value is answered.
-pub fn remove(f: Functions, c: Rooms, x: u32, m: &mut Buffers) -> Result<Done, Refusal>
-    requires { FitIn f c (words m.old) }
-    ensures outcome { let old = words m.old in outcome (words m.new) (told_by c result) ≡ leaves c old (remove (numbers_of f c) x (store_of f c old)) }
+pub fn remove(setup: Setup, x: u32, m: &mut Buffers) -> Result<Done, Refusal>
+    requires { FitIn setup (words m.old) }
+    ensures outcome { let old = words m.old in
+        outcome (words m.new) (told_by setup.rooms result) ≡ leaves setup.rooms old (remove (numbers_of setup) x (store_of setup old)) }
     ensures same { SameBuffers m.old m.new }
 {
     if !numbers::is_key(x) {
         return Err(Refusal::NotAKey);
     }
-    let seen = finding::search_in(f, c, x, m);
+    let seen = finding::search_in(setup, x, m);
     match seen.place {
-        Place::Table0(i) => Ok(remove_cell(c, i, m.t0, m.queue, m.detector)),
-        Place::Table1(i) => Ok(remove_cell(c, i, m.t1, m.queue, m.detector)),
-        Place::Waiting(j) => Ok(remove_waiting(c, j, m.queue, m.detector)),
+        Place::Table0(i) => Ok(remove_cell(setup.rooms, i, m.t0, m.queue, m.detector)),
+        Place::Table1(i) => Ok(remove_cell(setup.rooms, i, m.t1, m.queue, m.detector)),
+        Place::Waiting(j) => Ok(remove_waiting(setup.rooms, j, m.queue, m.detector)),
         Place::Nowhere => Err(Refusal::NotFound),
     }
 }

@@ -12,20 +12,6 @@ use std::io;
 use std::io::Write;
 use store::{Answer, Control};
 
-// A record of zeros: what a refused open gives.
-const NO_STORE: Control = Control {
-    r: 0,
-    queue_room: 0,
-    detector_room: 0,
-    step_limit: 0,
-    a0: 0,
-    b0: 0,
-    a1: 0,
-    b1: 0,
-    queue_len: 0,
-    detector_len: 0,
-};
-
 // Store S with its buffers.
 pub type StoreS = Bench<8, 12, 16>;
 
@@ -62,7 +48,7 @@ impl<const TABLE: usize, const QUEUE: usize, const DETECTOR: usize> Bench<TABLE,
         ensures buffers { buffers_of result ≡ buffers_with TABLE QUEUE DETECTOR word }
     {
         Bench {
-            control: NO_STORE,
+            control: Control::default(),
             t0: [word; TABLE],
             t1: [word; TABLE],
             queue: [word; QUEUE],

@@ -1,4 +1,5 @@
-// Runs of steps from accepted lengths, and settle. Inner functions: their callers show what they require.
+// Runs of steps from accepted lengths, and settle. Inner functions: their callers show what they require, in one clause with a name; a type that says it
+// would have to hold the record beside the buffers.
 #![tactic(auto)]
 
 ghost use Rattle.std.specs.Prelude.{◌≡◌, ◌≤◌};
@@ -11,28 +12,32 @@ ghost use Rattle.settling.specs.Ran.{ran_outcome};
 
 use finding::Done;
 use layout::Buffers;
-use numbers::{Functions, Rooms};
+use numbers::Setup;
 use refusals::Refusal;
 
-// Steps until the budget is spent or nothing waits.
+// Steps until the budget is spent or nothing waits. In line, as what it calls: else the buffers' struct is written to memory before the first test of a call.
 #[inline(always)]
-pub fn run_out(f: Functions, c: Rooms, budget: u32, m: &mut Buffers) -> Done
+pub fn run_out(setup: Setup, budget: u32, m: &mut Buffers) -> Done
     requires budget_bound { budget ≤ 64 }
-    requires fit_in { FitIn f c (words m.old) }
-    requires ready { Ready c.lengths.queue c.lengths.detector m.old.queue.now m.old.detector.now }
-    ensures outcome { outcome (words m.new) (told_by c (Ok result)) ≡ ran_outcome c (run (numbers_of f c) budget (store_of f c (words m.old))) }
+    requires fit_in { FitIn setup (words m.old) }
+    requires ready { Ready setup.rooms.lengths.queue setup.rooms.lengths.detector m.old.queue.now m.old.detector.now }
+    ensures outcome { outcome (words m.new) (told_by setup.rooms (Ok result))
+        ≡ ran_outcome setup.rooms (run (numbers_of setup) budget (store_of setup (words m.old))) }
     ensures same { SameBuffers m.old m.new }
 {
-    let ended = steps::run_steps(f, c.detector_room, budget, c.lengths, m);
+    let c = setup.rooms;
+    let ended = steps::run_steps(setup.functions, c.detector_room, budget, c.lengths, m);
     Done::of(ended.lengths, 0, ended.steps, ended.moves)
 }
 
 // Settle n: steps run until n are done or the queue is empty.
-pub fn settle(f: Functions, c: Rooms, n: u32, m: &mut Buffers) -> Result<Done, Refusal>
-    requires { FitIn f c (words m.old) }
-    ensures outcome { let old = words m.old in outcome (words m.new) (told_by c result) ≡ leaves c old (settle (numbers_of f c) n (store_of f c old)) }
+pub fn settle(setup: Setup, n: u32, m: &mut Buffers) -> Result<Done, Refusal>
+    requires { FitIn setup (words m.old) }
+    ensures outcome { let old = words m.old in
+        outcome (words m.new) (told_by setup.rooms result) ≡ leaves setup.rooms old (settle (numbers_of setup) n (store_of setup old)) }
     ensures same { SameBuffers m.old m.new }
 {
+    let c = setup.rooms;
     if c.step_limit < n {
         return Err(Refusal::AboveStepLimit);
     }
@@ -40,5 +45,5 @@ pub fn settle(f: Functions, c: Rooms, n: u32, m: &mut Buffers) -> Result<Done, R
     if c.lengths.queue == 0 {
         return Ok(Done::at_rest(c.lengths, 0));
     }
-    Ok(run_out(f, c, n, m))
+    Ok(run_out(setup, n, m))
 }

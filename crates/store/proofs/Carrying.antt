@@ -6,7 +6,6 @@ use lib.ListN.{length}
 use mathlib.Core.Path.{◌≡◌, refl, sym, ◌∙◌, ap}
 use mathlib.Core.Logic.{◌≢◌}
 use mathlib.Core.Bool.{Bool, true, false, cond}
-use Rattle.numbers.specs.declared.Functions.{Functions}
 use Rattle.rules.specs.Store.{Store, Numbers}
 use Rattle.rules.specs.Calls.{Answer as RulesAnswer, answer, Outcome as RulesOutcome}
 use Rattle.rules.specs.Search.{search}
@@ -19,12 +18,12 @@ use Rattle.refusals.specs.declared.Refusal.TheVariants.{NumberOutOfRange, Buffer
 use Rattle.refusals.specs.declared.Refusal.TheVariants.{QueueFull, NotFound, AboveStepLimit, NotSound}
 use Rattle.refusals.specs.Numbers.{number_of, value_of, number_of_test}
 use Rattle.finding.specs.declared.Done.{Done}
-use Rattle.numbers.specs.declared.Rooms.{Rooms}
+use Rattle.numbers.specs.declared.Setup.{Setup}
 use Rattle.finding.specs.Inner.{numbers_of as inner_numbers, store_of as inner_store, Outcome as InnerOutcome, outcome as inner, answered as inner_answered, keeps as inner_keeps, leaves as inner_leaves, words_of as inner_words, rooms_of as inner_rooms, FitIn, told_by}
 use Rattle.changing.specs.Change.{put_value, changing as inner_changing}
 use Rattle.store.specs.declared.Control.{Control}
 use Rattle.store.specs.declared.Answer.{Answer}
-use Rattle.store.specs.Memory.{functions_of, rooms_of, numbers_of, store_of, record_of, words_of}
+use Rattle.store.specs.Memory.{rooms_of, setup_of, numbers_of, store_of, record_of, words_of}
 use Rattle.store.specs.Refusals.{Outcome, outcome, answered, keeps, unless_fault}
 use Rattle.store.specs.Calls.{leaves, changing}
 use Rattle.store.specs.Inner.{fault_in, carried}
@@ -44,7 +43,7 @@ module _ (c : Control) (m : Lent) where
       go true = refl
       go false = refl
 
-  carries-changing : (x v : ℕ) (a : RulesAnswer) → carries c (inner_changing (functions_of c) (rooms_of c) x v m a) ≡ changing c x v m a
+  carries-changing : (x v : ℕ) (a : RulesAnswer) → carries c (inner_changing (setup_of c) x v m a) ≡ changing c x v m a
   unfolding changing inner_changing
   carries-changing x v a = go (put_value (search (numbers_of c) x (store_of c m)) v m) (is_accepted a)
     where
@@ -92,36 +91,38 @@ module _ (c : Control) (m : Lent) {r : Result (Unit {0}) Refusal} (test : number
     pub no_fault_in : fault_in c m ≡ 0
     no_fault_in = sym test ∙ ap number_of_test none
 
-    pub own_fits_by : FitIn (functions_of c) (rooms_of c) m
+    pub own_fits_by : FitIn (setup_of c) m
     own_fits_by = no_fault c (length m.table0) (length m.table1) (length m.queue) (length m.detector) no_fault_in
 
     pub goes_on_by : (after : Outcome) → after ≡ unless_fault c m after
     goes_on_by after = sym (goes_on_lem c m after no_fault_in)
 
-    -- f and w are the code's two structs
-    module _ {f : Functions} {w : Rooms} (functions : f ≡ functions_of c) (rooms : w ≡ rooms_of c) where
-      pub fits_by : FitIn f w m
-      fits_by = rw (functions, rooms) own_fits_by
+    -- w is the code's struct of the record's numbers
+    module _ {w : Setup} (same : w ≡ setup_of c) where
+      pub fits_by : FitIn w m
+      fits_by = rw same own_fits_by
 
       module _ {m' : Lent} (d : Result Done Refusal) {a : Answer} (is : a ≡ carried c (told_by (rooms_of c) d)) where
         -- whatever an inner call leaves, if what it leaves carries to what comes after
-        goes_by : (G : Functions → Rooms → InnerOutcome) (after : Outcome) → carries c (G (functions_of c) (rooms_of c)) ≡ after → inner m' (told_by w d) ≡ G f w
+        goes_by : (G : Setup → InnerOutcome) (after : Outcome) → carries c (G (setup_of c)) ≡ after → inner m' (told_by w.rooms d) ≡ G w
             → outcome m' a ≡ unless_fault c m after
         goes_by G after carry e =
-            ap (outcome m') is ∙ ap (λ z. carries c (inner m' (told_by z d))) (sym rooms) ∙ ap (carries c) (e ∙ (λ i. G (functions i) (rooms i))) ∙ carry ∙ goes_on_by after
+            ap (outcome m') is ∙ ap (λ (z : Setup). carries c (inner m' (told_by z.rooms d))) (sym same)
+            ∙ ap (carries c) (e ∙ ap G same) ∙ carry ∙ goes_on_by after
 
-        pub keeps_by : (G : Numbers → Store → RulesAnswer) → inner m' (told_by w d) ≡ inner_keeps w m (G (inner_numbers f w) (inner_store f w m))
+        pub keeps_by : (G : Numbers → Store → RulesAnswer) → inner m' (told_by w.rooms d) ≡ inner_keeps w.rooms m (G (inner_numbers w) (inner_store w m))
             → outcome m' a ≡ unless_fault c m (keeps c m (G (numbers_of c) (store_of c m)))
-        keeps_by G = goes_by (λ g z. inner_keeps z m (G (inner_numbers g z) (inner_store g z m))) _ refl
+        keeps_by G = goes_by (λ z. inner_keeps z.rooms m (G (inner_numbers z) (inner_store z m))) _ refl
 
-        pub leaves_by : (G : Numbers → Store → RulesOutcome) → inner m' (told_by w d) ≡ inner_leaves w m (G (inner_numbers f w) (inner_store f w m))
+        pub leaves_by : (G : Numbers → Store → RulesOutcome) → inner m' (told_by w.rooms d) ≡ inner_leaves w.rooms m (G (inner_numbers w) (inner_store w m))
             → outcome m' a ≡ unless_fault c m (leaves c m (G (numbers_of c) (store_of c m)))
-        leaves_by G = goes_by (λ g z. inner_leaves z m (G (inner_numbers g z) (inner_store g z m))) _ (carries-leaves c m (G (numbers_of c) (store_of c m)))
+        leaves_by G = goes_by (λ z. inner_leaves z.rooms m (G (inner_numbers z) (inner_store z m))) _ (carries-leaves c m (G (numbers_of c) (store_of c m)))
 
-        pub changes_by : (x v : ℕ) (G : Numbers → Store → RulesAnswer) → inner m' (told_by w d) ≡ inner_changing f w x v m (G (inner_numbers f w) (inner_store f w m))
+        pub changes_by : (x v : ℕ) (G : Numbers → Store → RulesAnswer) → inner m' (told_by w.rooms d)
+            ≡ inner_changing w x v m (G (inner_numbers w) (inner_store w m))
             → outcome m' a ≡ unless_fault c m (changing c x v m (G (numbers_of c) (store_of c m)))
         changes_by x v G =
-            goes_by (λ g z. inner_changing g z x v m (G (inner_numbers g z) (inner_store g z m))) _ (carries-changing c m x v (G (numbers_of c) (store_of c m)))
+            goes_by (λ z. inner_changing z x v m (G (inner_numbers z) (inner_store z m))) _ (carries-changing c m x v (G (numbers_of c) (store_of c m)))
 
 -- the buffers that a call was lent hold what those that it handed on hold
 pub handed_back : {t0 t1 q d : List ℕ} {a : Answer} {o : Outcome} (m : Buffers) → t0 ≡ m.t0.now → t1 ≡ m.t1.now → q ≡ m.queue.now → d ≡ m.detector.now

@@ -15,14 +15,13 @@ use Rattle.rules.specs.Check.{is_sound, Sized}
 use Rattle.rules.proofs.Check.{check_is_exact as rules_check_is_exact}
 use Rattle.layout.specs.Forms.{cell_form, entry_form, pair_form}
 use Rattle.layout.proofs.Forms.{length-read_many}
-use Rattle.numbers.specs.declared.Functions.{Functions}
 use Rattle.entries.specs.Zeros.{all_zero}
 use Rattle.checks.specs.Sound.{is_sound_in}
 use Rattle.store.specs.declared.Control.{Control}
 use Rattle.store.specs.declared.Answer.{Answer}
 use Rattle.layout.specs.Memory.{Lent, homes_of}
-use Rattle.numbers.specs.declared.Rooms.{Rooms}
-use Rattle.store.specs.Memory.{functions_of, rooms_of, numbers_of, store_of}
+use Rattle.numbers.specs.declared.Setup.{Setup}
+use Rattle.store.specs.Memory.{setup_of, numbers_of, store_of}
 use Rattle.store.specs.Refusals.{in_range, sized_in, lengths_within, Outcome, outcome, answered, keeps, unless_fault}
 use Rattle.store.specs.Calls.{checking, checked}
 use Rattle.faults.specs.Faults.{fault_of}
@@ -46,11 +45,12 @@ unfolding checking
 check_refuses c m h = simp h
 
 -- what the code's test of the whole store answers is that test
-pub tested_by : (c : Control) (m : Lent) {f : Functions} {w : Rooms} {b : Bool} → f ≡ functions_of c → w ≡ rooms_of c
-    → ((n : Numbers) → n.home ≡ homes_of f → b ≡ is_sound_in n f.r w.lengths.queue w.lengths.detector m.table0 m.table1 m.queue m.detector) → b ≡ passes c m
-tested_by c m functions rooms is =
-    is (numbers_of c) (λ i. homes_of (sym functions i))
-    ∙ (λ i. is_sound_in (numbers_of c) (functions i).r (rooms i).lengths.queue (rooms i).lengths.detector m.table0 m.table1 m.queue m.detector)
+pub tested_by : (c : Control) (m : Lent) {w : Setup} {b : Bool} → w ≡ setup_of c
+    → ((n : Numbers) → n.home ≡ homes_of w.functions
+    → b ≡ is_sound_in n w.functions.r w.rooms.lengths.queue w.rooms.lengths.detector m.table0 m.table1 m.queue m.detector) → b ≡ passes c m
+tested_by c m same is =
+    is (numbers_of c) (λ i. homes_of (sym same i).functions)
+    ∙ (λ i. is_sound_in (numbers_of c) (same i).functions.r (same i).rooms.lengths.queue (same i).rooms.lengths.detector m.table0 m.table1 m.queue m.detector)
 
 pub checks_by : (c : Control) (m : Lent) {b : Bool} {a : Answer} → fault_in c m ≡ 0 → b ≡ passes c m → a ≡ answered c (answer (cond b 0 9) 0 0 0)
     → outcome m a ≡ unless_fault c m (checking c m)

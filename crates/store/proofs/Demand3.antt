@@ -10,7 +10,7 @@ use Rattle.rules.specs.Demand3.{settle_all as rules_settle_all, steps_in_all as 
 use Rattle.rules.proofs.Demand3.{demand_3 as rules_demand_3, demand_3_converse as rules_demand_3_converse}
 use Rattle.layout.specs.Forms.{entry_form}
 use Rattle.layout.proofs.Forms.{length-read_many}
-use Rattle.store.specs.Memory.{functions_of, rooms_of, numbers_of, store_of}
+use Rattle.store.specs.Memory.{setup_of, numbers_of, store_of}
 use Rattle.store.specs.Calls.{settled}
 use Rattle.store.specs.Sound.{SoundIn}
 use Rattle.store.specs.Demand2.{Held, given}
@@ -63,7 +63,8 @@ demand_3 c m sound fit =
     record {
       empties = λ budgets l. none_waits (settle_all budgets (start c m)) (ap (λ s. s.waiting) (settles_as budgets (start c m) sound) ∙ r.empties budgets (subst (λ k. k ≤ granted (numbers_of c) budgets) same l));
       within = λ budgets. rw (steps_as budgets (start c m) sound, same) (r.within budgets);
-      calls_exist = subst (λ k. (budgets : List ℕ) × (k ≤ granted (numbers_of c) budgets)) (sym same) (r.calls_exist (ranges (functions_of c) (rooms_of c) sound.in_range).limit_some);
+      calls_exist = subst (λ k. (budgets : List ℕ) × (k ≤ granted (numbers_of c) budgets)) (sym same)
+          (r.calls_exist (ranges (setup_of c) sound.in_range).limit_some);
     }
 
 pub demand_3_converse : Demand3Converse

@@ -12,22 +12,22 @@ use Rattle.faults.specs.Faults.{within_rooms, fault_of, lengths_fit}
 use Rattle.faults.proofs.Accepted.{both, ranges, Sizes, sizes, accepted-tests}
 use Rattle.finding.specs.Inner.{Fit}
 use Rattle.store.specs.declared.Control.{Control}
-use Rattle.store.specs.Memory.{functions_of, rooms_of}
+use Rattle.store.specs.Memory.{setup_of}
 use Rattle.store.specs.Inner.{fault_in}
 use Rattle.store.specs.Refusals.{in_range, sized_in, lengths_within, Outcome, keeps, refuse_if, unless_fault}
 
 -- the test behind `sized_in`, of four lengths
 abbrev pub sized : Control → ℕ → ℕ → ℕ → ℕ → Bool
-sized c n0 n1 nq nd = lengths_fit (functions_of c) (rooms_of c) n0 n1 nq nd
+sized c n0 n1 nq nd = lengths_fit (setup_of c) n0 n1 nq nd
 
-pub own_sizes : (c : Control) (n0 n1 nq nd : ℕ) → sized c n0 n1 nq nd ≡ true → Sizes (functions_of c) (rooms_of c) n0 n1 nq nd
-own_sizes c n0 n1 nq nd h = sizes (functions_of c) (rooms_of c) n0 n1 nq nd h
+pub own_sizes : (c : Control) (n0 n1 nq nd : ℕ) → sized c n0 n1 nq nd ≡ true → Sizes (setup_of c) n0 n1 nq nd
+own_sizes c n0 n1 nq nd h = sizes (setup_of c) n0 n1 nq nd h
 
-pub no_fault : (c : Control) (n0 n1 nq nd : ℕ) → fault_of (functions_of c) (rooms_of c) n0 n1 nq nd ≡ 0 → Fit (functions_of c) (rooms_of c) n0 n1 nq nd
+pub no_fault : (c : Control) (n0 n1 nq nd : ℕ) → fault_of (setup_of c) n0 n1 nq nd ≡ 0 → Fit (setup_of c) n0 n1 nq nd
 unfolding fault_of within_rooms
 no_fault c n0 n1 nq nd h =
     let t = accepted-tests (in_range c) (sized c n0 n1 nq nd) (leb c.queue_len c.queue_room && leb c.detector_len c.detector_room) h in
-    let r = ranges (functions_of c) (rooms_of c) t.0 in
+    let r = ranges (setup_of c) t.0 in
     let s = own_sizes c n0 n1 nq nd t.1 in
     let f = both (leb c.queue_len c.queue_room) (leb c.detector_len c.detector_room) t.2 in
     record {

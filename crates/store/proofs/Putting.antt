@@ -14,7 +14,7 @@ use Rattle.layout.specs.Forms.{cell_form, entry_form}
 use Rattle.layout.proofs.Forms.{cell_lawful, entry_lawful, read_at, read_set}
 use Rattle.store.specs.declared.Control.{Control}
 use Rattle.layout.specs.Memory.{Lent, cells_in, entries_in}
-use Rattle.store.specs.Memory.{rooms_of, functions_of, store_of}
+use Rattle.store.specs.Memory.{setup_of, store_of}
 use Rattle.changing.specs.Change.{put_value}
 use Rattle.store.specs.Refusals.{sized_in}
 use Rattle.faults.proofs.Accepted.{Sizes}
@@ -58,7 +58,7 @@ Inside c nowhere = Unit {0}
 
 module _ (c : Control) (m : Lent) (v : ℕ) where
   -- the words hold the store with the value replaced
-  pub put_store : Sizes (functions_of c) (rooms_of c) (length m.table0) (length m.table1) (length m.queue) (length m.detector) → c.queue_len ≤ c.queue_room
+  pub put_store : Sizes (setup_of c) (length m.table0) (length m.table1) (length m.queue) (length m.detector) → c.queue_len ≤ c.queue_room
       → (p : Place) → Inside c p → store_of c (put_value p v m) ≡ with_value p v (store_of c m)
   put_store sizes fits (in_table table_0 i) h =
       ap (λ cs. store (record { table0 = cs; table1 = cells_in c.r m.table1 }) (store_of c m).waiting (store_of c m).marked) (put_in_cell c.r i v m.table0 h (omega (arith, sizes.first)))

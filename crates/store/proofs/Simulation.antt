@@ -22,7 +22,7 @@ use Rattle.rules.proofs.Places.{entry-within}
 use Rattle.rules.proofs.CallsKept.{by_found, call_keeps_sound as rules_keep_sound}
 use Rattle.store.specs.declared.Control.{Control}
 use Rattle.layout.specs.Memory.{Lent}
-use Rattle.store.specs.Memory.{functions_of, rooms_of, numbers_of, store_of, words_of, record_of}
+use Rattle.store.specs.Memory.{functions_of, setup_of, numbers_of, store_of, words_of, record_of}
 use Rattle.store.specs.Refusals.{Outcome, outcome, answered, keeps}
 use Rattle.faults.specs.Faults.{within_rooms, fault_of}
 use Rattle.faults.proofs.Accepted.{ranges}
@@ -55,8 +55,8 @@ find-leaves n x s = go (good_key x) (lookup n x s)
 
 module _ (c : Control) (m : Lent) (sound : SoundIn c m) where
   pub into : IntoCells (numbers_of c)
-  into table_0 x = home0_in_table (functions_of c) x (omega (arith, (ranges (functions_of c) (rooms_of c) sound.in_range).some))
-  into table_1 x = home1_in_table (functions_of c) x (omega (arith, (ranges (functions_of c) (rooms_of c) sound.in_range).some))
+  into table_0 x = home0_in_table (functions_of c) x (omega (arith, (ranges (setup_of c) sound.in_range).some))
+  into table_1 x = home1_in_table (functions_of c) x (omega (arith, (ranges (setup_of c) sound.in_range).some))
 
   pub contents : SoundContents (numbers_of c) (store_of c m)
   contents = sound.contents

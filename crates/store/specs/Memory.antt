@@ -5,6 +5,7 @@ use Rattle.rules.specs.Store.{Store, Numbers}
 use Rattle.numbers.specs.declared.Functions.{Functions}
 use Rattle.layout.specs.Memory.{Lent, words_in, homes_of, store_in}
 use Rattle.numbers.specs.declared.Rooms.{Rooms}
+use Rattle.numbers.specs.declared.Setup.{Setup}
 use Rattle.store.specs.declared.Control.{Control}
 
 -- the home functions of a record
@@ -19,6 +20,10 @@ rooms_of c = record {
   lengths = record { detector = c.detector_len; queue = c.queue_len };
   detector_room = c.detector_room;
 }
+
+-- both
+abbrev pub setup_of : Control → Setup
+setup_of c = record { functions = functions_of c; rooms = rooms_of c }
 
 -- the numbers of a record
 abbrev pub numbers_of : Control → Numbers

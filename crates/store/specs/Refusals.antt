@@ -4,16 +4,16 @@ use Rattle.faults.specs.Faults.{numbers_in_range, lengths_fit, within_rooms}
 use Rattle.rules.specs.Calls.{Answer as RulesAnswer, answer}
 use Rattle.store.specs.declared.Control.{Control}
 use Rattle.store.specs.declared.Answer.{Answer}
-use Rattle.store.specs.Memory.{functions_of, rooms_of}
+use Rattle.store.specs.Memory.{rooms_of, setup_of}
 use Rattle.layout.specs.Memory.{Lent}
 
 -- 1: "r, Q, D, L or a function number out of range"
 abbrev pub in_range : Control → Bool
-in_range c = numbers_in_range (functions_of c) (rooms_of c)
+in_range c = numbers_in_range (setup_of c)
 
 -- 2: "a buffer's length is not 2r, 2r, 3Q or 2D words"
 abbrev pub sized_in : Control → Lent → Bool
-sized_in c m = lengths_fit (functions_of c) (rooms_of c) (length m.table0) (length m.table1) (length m.queue) (length m.detector)
+sized_in c m = lengths_fit (setup_of c) (length m.table0) (length m.table1) (length m.queue) (length m.detector)
 
 -- 3: "queue length above Q, or detector length above D"
 abbrev pub lengths_within : Control → Bool

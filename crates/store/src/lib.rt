@@ -1,22 +1,25 @@
-// The key table: calls on a control record, by value, and on lent words. Every call takes every record, number and buffer.
+// The key table: calls on a control record, by value, and on lent words. Every call takes every record, number and buffer. The slices are lent one by one, as the
+// project's page of rules has them. A call matches on `fault` and answers in both arms, since its answer is C's struct: a private function that takes `?` would be
+// a second one with the same clause, for each call.
 #![tactic(auto)]
 
 ghost use Rattle.std.specs.Prelude.{◌≡◌};
 ghost use Rattle.rules.specs.Calls.{answer};
 ghost use Rattle.layout.specs.Memory.{lent};
 ghost use Rattle.refusals.specs.Numbers.{number_of, value_of, number_of_test};
-ghost use Rattle.finding.specs.Inner.{told_under, told_by};
-ghost use Rattle.store.specs.Memory.{functions_of, rooms_of};
+ghost use Rattle.finding.specs.Inner.{told_by};
+ghost use Rattle.store.specs.Memory.{rooms_of, setup_of};
 ghost use Rattle.store.specs.Refusals.{outcome, answered};
 ghost use Rattle.store.specs.Calls.{zeros, new_record, opened, found, defined, changed, removed, settled, checked};
-ghost use Rattle.store.specs.Inner.{fault_in, carried};
+ghost use Rattle.store.specs.Inner.{fault_in, carried, told_by_reply};
 
 use finding::Done;
 use layout::Buffers;
-use numbers::{Functions, Lengths, Rooms};
+use numbers::{Functions, Lengths, Rooms, Setup};
 use refusals::Refusal;
 
-// r, Q, D, L, the numbers of the two home functions, and the two lengths.
+// r, Q, D, L, the numbers of the two home functions, and the two lengths: numbers and no struct, as C has them (`kt.h`). Memory is fixed, so queue and detector are
+// longer than what is in use, and the lengths stand here.
 #[repr(C)]
 #[derive(Clone, Copy, Default)]
 pub struct Control {
@@ -32,7 +35,7 @@ pub struct Control {
     pub detector_len: u32,
 }
 
-// What every call answers. Number 0 is accepted.
+// What every call answers. Number 0 is accepted: a number and no enum, since C reads it (`kt.h`).
 #[repr(C)]
 #[derive(Clone, Copy)]
 pub struct Answer {
@@ -43,34 +46,39 @@ pub struct Answer {
     pub moves: u32,
 }
 
-// The home functions of a record.
-impl From<Control> for Functions {
-    ghost from_gives = { λ c f. f ≡ functions_of c };
-
-    fn from(c: Control) -> Functions {
-        Functions {
-            r: c.r,
-            a0: c.a0,
-            b0: c.b0,
-            a1: c.a1,
-            b1: c.b1,
-        }
-    }
+// What a call gives back, refused or not: the number as the answer has it. As in `Done` both lengths are one word, so that the record takes them at once: as a pair of number and `Done` they
+// became two again, and settle with nothing waiting took 1.20 of the limit's time for 1.08.
+#[derive(Clone, Copy)]
+struct Reply {
+    lengths: u64,
+    number: u32,
+    value: u32,
+    steps: u32,
+    moves: u32,
 }
 
-// The rooms, the step limit and the lengths of a record.
-impl From<Control> for Rooms {
-    ghost from_gives = { λ c rooms. rooms ≡ rooms_of c };
+// The numbers of a record: the home functions, and the rooms, the step limit and the lengths.
+impl From<Control> for Setup {
+    ghost from_gives = { λ c setup. setup ≡ setup_of c };
 
-    fn from(c: Control) -> Rooms {
-        Rooms {
-            queue_room: c.queue_room,
-            step_limit: c.step_limit,
-            lengths: Lengths {
-                detector: c.detector_len,
-                queue: c.queue_len,
+    fn from(c: Control) -> Setup {
+        Setup {
+            functions: Functions {
+                r: c.r,
+                a0: c.a0,
+                b0: c.b0,
+                a1: c.a1,
+                b1: c.b1,
             },
-            detector_room: c.detector_room,
+            rooms: Rooms {
+                queue_room: c.queue_room,
+                step_limit: c.step_limit,
+                lengths: Lengths {
+                    detector: c.detector_len,
+                    queue: c.queue_len,
+                },
+                detector_room: c.detector_room,
+            },
         }
     }
 }
@@ -80,9 +88,8 @@ impl Control {
     fn fault(self, t0: &[u32], t1: &[u32], queue: &[u32], detector: &[u32]) -> Result<(), Refusal>
         ensures { number_of_test result ≡ fault_in self (lent t0.now t1.now queue.now detector.now) }
     {
-        let f = Functions::from(self);
-        let c = Rooms::from(self);
-        faults::fault(f, c, t0.len(), t1.len(), queue.len(), detector.len())
+        let setup = Setup::from(self);
+        faults::fault(setup, t0.len(), t1.len(), queue.len(), detector.len())
     }
 
     // Accepted without steps and with value 0.
@@ -111,16 +118,25 @@ impl Control {
         }
     }
 
-    // The number of a call's answer, and what it gives back: refused, the record's own lengths and the refusal's value.
-    fn told(self, done: Result<Done, Refusal>) -> (u32, Done)
-        ensures { told_under result.0 result.1 ≡ told_by (rooms_of self) done }
+    // What a call gives back, refused or not: refused, the record's own lengths.
+    fn told(self, done: Result<Done, Refusal>) -> Reply
+        ensures { told_by_reply result ≡ told_by (rooms_of self) done }
     {
         match done {
-            Ok(done) => (0, done),
-            Err(refusal) => {
-                let lengths = Rooms::from(self).lengths;
-                (refusal.number(), Done::at_rest(lengths, refusal.value()))
-            }
+            Ok(done) => Reply {
+                lengths: done.lengths,
+                number: 0,
+                value: done.value,
+                steps: done.steps,
+                moves: done.moves,
+            },
+            Err(reason) => Reply {
+                lengths: (self.queue_len as u64) + (self.detector_len as u64) * 4294967296,
+                number: reason.number(),
+                value: reason.value(),
+                steps: 0,
+                moves: 0,
+            },
         }
     }
 
@@ -128,15 +144,15 @@ impl Control {
     fn after(mut self, done: Result<Done, Refusal>) -> Answer
         ensures { result ≡ carried self (told_by (rooms_of self) done) }
     {
-        let (number, done) = self.told(done);
-        self.queue_len = done.queue_len();
-        self.detector_len = done.detector_len();
+        let reply = self.told(done);
+        self.queue_len = (reply.lengths % 4294967296) as u32;
+        self.detector_len = (reply.lengths / 4294967296) as u32;
         Answer {
             control: self,
-            number,
-            value: done.value,
-            steps: done.steps,
-            moves: done.moves,
+            number: reply.number,
+            value: reply.value,
+            steps: reply.steps,
+            moves: reply.moves,
         }
     }
 
@@ -146,8 +162,8 @@ impl Control {
     {
         match self.fault(t0, t1, queue, detector) {
             Ok(()) => {
-                let f = Functions::from(self);
-                self.after(finding::find(f, Rooms::from(self), x, t0, t1, queue))
+                let setup = Setup::from(self);
+                self.after(finding::find(setup, x, t0, t1, queue))
             }
             Err(refusal) => self.refused(refusal),
         }
@@ -166,15 +182,14 @@ impl Control {
     {
         match self.fault(t0, t1, queue, detector) {
             Ok(()) => {
-                let f = Functions::from(self);
-                let c = Rooms::from(self);
+                let setup = Setup::from(self);
                 let mut m = Buffers {
                     t0,
                     t1,
                     queue,
                     detector,
                 };
-                self.after(settling::settle(f, c, n, &mut m))
+                self.after(settling::settle(setup, n, &mut m))
             }
             Err(refusal) => self.refused(refusal),
         }
@@ -194,15 +209,14 @@ impl Control {
     {
         match self.fault(t0, t1, queue, detector) {
             Ok(()) => {
-                let f = Functions::from(self);
-                let c = Rooms::from(self);
+                let setup = Setup::from(self);
                 let mut m = Buffers {
                     t0,
                     t1,
                     queue,
                     detector,
                 };
-                self.after(adding::define(f, c, x, v, &mut m))
+                self.after(adding::define(setup, x, v, &mut m))
             }
             Err(refusal) => self.refused(refusal),
         }
@@ -222,15 +236,14 @@ impl Control {
     {
         match self.fault(t0, t1, queue, detector) {
             Ok(()) => {
-                let f = Functions::from(self);
-                let c = Rooms::from(self);
+                let setup = Setup::from(self);
                 let mut m = Buffers {
                     t0,
                     t1,
                     queue,
                     detector,
                 };
-                self.after(changing::change(f, c, x, v, &mut m))
+                self.after(changing::change(setup, x, v, &mut m))
             }
             Err(refusal) => self.refused(refusal),
         }
@@ -249,21 +262,20 @@ impl Control {
     {
         match self.fault(t0, t1, queue, detector) {
             Ok(()) => {
-                let f = Functions::from(self);
-                let c = Rooms::from(self);
+                let setup = Setup::from(self);
                 let mut m = Buffers {
                     t0,
                     t1,
                     queue,
                     detector,
                 };
-                self.after(removing::remove(f, c, x, &mut m))
+                self.after(removing::remove(setup, x, &mut m))
             }
             Err(refusal) => self.refused(refusal),
         }
     }
 
-    // Open: checks numbers and lengths, writes zero to every word, gives a record with both lengths 0.
+    // Open: checks numbers and lengths, writes zero to every word, gives a record with both lengths 0. Eight numbers one by one, as README shows the call.
     pub fn open(
         r: u32,
         queue_room: u32,
@@ -312,9 +324,8 @@ impl Control {
     {
         match self.fault(t0, t1, queue, detector) {
             Ok(()) => {
-                let f = Functions::from(self);
-                let c = Rooms::from(self);
-                if checks::is_sound(f, c.lengths, t0, t1, queue, detector) {
+                let Setup { functions, rooms } = Setup::from(self);
+                if checks::is_sound(functions, rooms.lengths, t0, t1, queue, detector) {
                     return self.accepted();
                 }
                 self.refused(Refusal::NotSound)

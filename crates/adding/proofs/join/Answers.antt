@@ -9,25 +9,25 @@ run_out-requires-clause-fit_in c =
     let a = c.args in
     let m = a.m.now in
     let tidy = c.tidy.ensures in
-    let fit = tidied_fit a.f a.c m.t0.now m.t1.now m.queue.now m.detector.now _ _ c.requires.fit_in tidy in
-    let ready = tidied_ready a.f a.c m.t0.now m.t1.now m.queue.now m.detector.now _ _ c.requires.fit_in tidy in
-    joined_fit a.f a.c a.x a.v m.t0.now m.t1.now _ _ _ c.requires.queue_len_bound fit ready c.put.ensures
+    let fit = tidied_fit a.setup m.t0.now m.t1.now m.queue.now m.detector.now _ _ c.requires.fit_in tidy in
+    let ready = tidied_ready a.setup m.t0.now m.t1.now m.queue.now m.detector.now _ _ c.requires.fit_in tidy in
+    joined_fit a.setup a.x a.v m.t0.now m.t1.now _ _ _ c.requires.queue_len_bound fit ready c.put.ensures
 
 pub run_out-requires-clause-ready : goal.run_out-requires-clause-ready
 run_out-requires-clause-ready c =
     let a = c.args in
     let m = a.m.now in
     let tidy = c.tidy.ensures in
-    let fit = tidied_fit a.f a.c m.t0.now m.t1.now m.queue.now m.detector.now _ _ c.requires.fit_in tidy in
-    let ready = tidied_ready a.f a.c m.t0.now m.t1.now m.queue.now m.detector.now _ _ c.requires.fit_in tidy in
-    joined_ready a.f a.c a.x a.v m.t0.now m.t1.now _ _ _ c.requires.queue_len_bound fit ready c.put.ensures
+    let fit = tidied_fit a.setup m.t0.now m.t1.now m.queue.now m.detector.now _ _ c.requires.fit_in tidy in
+    let ready = tidied_ready a.setup m.t0.now m.t1.now m.queue.now m.detector.now _ _ c.requires.fit_in tidy in
+    joined_ready a.setup a.x a.v m.t0.now m.t1.now _ _ _ c.requires.queue_len_bound fit ready c.put.ensures
 
 pub returns-clause-outcome : goal.returns-clause-outcome
 returns-clause-outcome c =
     let a = c.args in
     let m = a.m.now in
     let tidy = c.tidy.ensures in
-    let fit = tidied_fit a.f a.c m.t0.now m.t1.now m.queue.now m.detector.now _ _ c.requires.fit_in tidy in
-    let ready = tidied_ready a.f a.c m.t0.now m.t1.now m.queue.now m.detector.now _ _ c.requires.fit_in tidy in
-    joined_runs a.f a.c a.x a.v m.t0.now m.t1.now _ _ _ c.requires.queue_len_bound fit ready c.put.ensures
-    (tidied_store a.f a.c m.t0.now m.t1.now m.queue.now m.detector.now _ _ c.requires.fit_in tidy) c.run_out.ensures.outcome
+    let fit = tidied_fit a.setup m.t0.now m.t1.now m.queue.now m.detector.now _ _ c.requires.fit_in tidy in
+    let ready = tidied_ready a.setup m.t0.now m.t1.now m.queue.now m.detector.now _ _ c.requires.fit_in tidy in
+    joined_runs a.setup a.x a.v m.t0.now m.t1.now _ _ _ c.requires.queue_len_bound fit ready c.put.ensures
+    (tidied_store a.setup m.t0.now m.t1.now m.queue.now m.detector.now _ _ c.requires.fit_in tidy) c.run_out.ensures.outcome

@@ -9,7 +9,7 @@ use Rattle.changing.proofs.change.Goals as goal
 pub returns-then-not-is_key-clause-outcome : goal.returns-then-not-is_key-clause-outcome
 returns-then-not-is_key-clause-outcome c =
     let a = c.args in
-    changes_bad a.f a.c a.x a.v (words a.m.now) c.is_key.ensures (ap not c.if-not-is_key.true)
+    changes_bad a.setup a.x a.v (words a.m.now) c.is_key.ensures (ap not c.if-not-is_key.true)
 
 pub exchange-requires : goal.exchange-requires
 exchange-requires c =
@@ -32,22 +32,22 @@ exchange-requires-in-Waiting c =
 pub returns-in-Table0-clause-outcome : goal.returns-in-Table0-clause-outcome
 returns-in-Table0-clause-outcome c =
     let a = c.args in
-    changes_first a.f a.c a.x a.v (words a.m.now) c.is_key.ensures (ap not c.if-not-is_key.false) c.search_in-seen.ensures c.in-Table0.is
+    changes_first a.setup a.x a.v (words a.m.now) c.is_key.ensures (ap not c.if-not-is_key.false) c.search_in-seen.ensures c.in-Table0.is
     c.exchange.ensures
 
 pub returns-in-Table1-clause-outcome : goal.returns-in-Table1-clause-outcome
 returns-in-Table1-clause-outcome c =
     let a = c.args in
-    changes_second a.f a.c a.x a.v (words a.m.now) c.is_key.ensures (ap not c.if-not-is_key.false) c.search_in-seen.ensures c.in-Table1.is
+    changes_second a.setup a.x a.v (words a.m.now) c.is_key.ensures (ap not c.if-not-is_key.false) c.search_in-seen.ensures c.in-Table1.is
     c.exchange-in-Table1.ensures
 
 pub returns-in-Waiting-clause-outcome : goal.returns-in-Waiting-clause-outcome
 returns-in-Waiting-clause-outcome c =
     let a = c.args in
-    changes_waiting a.f a.c a.x a.v (words a.m.now) c.is_key.ensures (ap not c.if-not-is_key.false) c.search_in-seen.ensures c.in-Waiting.is
+    changes_waiting a.setup a.x a.v (words a.m.now) c.is_key.ensures (ap not c.if-not-is_key.false) c.search_in-seen.ensures c.in-Waiting.is
     c.exchange-in-Waiting.ensures
 
 pub returns-in-Nowhere-clause-outcome : goal.returns-in-Nowhere-clause-outcome
 returns-in-Nowhere-clause-outcome c =
     let a = c.args in
-    changes_none a.f a.c a.x a.v (words a.m.now) c.is_key.ensures (ap not c.if-not-is_key.false) c.search_in-seen.ensures c.in-Nowhere.is
+    changes_none a.setup a.x a.v (words a.m.now) c.is_key.ensures (ap not c.if-not-is_key.false) c.search_in-seen.ensures c.in-Nowhere.is

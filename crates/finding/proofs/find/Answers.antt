@@ -7,7 +7,7 @@ use Rattle.finding.proofs.find.Goals as goal
 pub returns-then-not-is_key : goal.returns-then-not-is_key
 returns-then-not-is_key c d =
     let a = c.args in
-    found_bad a.f a.c a.x (lent a.t0.now a.t1.now a.queue.now d) c.is_key.ensures (ap not c.if-not-is_key.true)
+    found_bad a.setup a.x (lent a.t0.now a.t1.now a.queue.now d) c.is_key.ensures (ap not c.if-not-is_key.true)
 
 pub returns-in-Some : goal.returns-in-Some
 returns-in-Some c d =

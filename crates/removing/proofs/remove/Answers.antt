@@ -9,7 +9,7 @@ use Rattle.removing.proofs.remove.Goals as goal
 pub returns-then-not-is_key-clause-outcome : goal.returns-then-not-is_key-clause-outcome
 returns-then-not-is_key-clause-outcome c =
     let a = c.args in
-    refuses_bad a.f a.c a.x (words a.m.now) (bad_key _ c.is_key.ensures (ap not c.if-not-is_key.true))
+    refuses_bad a.setup a.x (words a.m.now) (bad_key _ c.is_key.ensures (ap not c.if-not-is_key.true))
 
 pub remove_cell-requires-clause-i_in_bounds : goal.remove_cell-requires-clause-i_in_bounds
 remove_cell-requires-clause-i_in_bounds c =
@@ -32,7 +32,7 @@ returns-in-Table0-clause-outcome c =
     let s = c in
     let a = s.args in
     let good = good_key_lem _ c.is_key.ensures (ap not c.if-not-is_key.false) in
-    removes_first a.f a.c a.x (words a.m.now) good s.requires
+    removes_first a.setup a.x (words a.m.now) good s.requires
     (located_as c.search_in-seen.ensures.at c.in-Table0.is) c.remove_cell.ensures
 
 pub returns-in-Table1-clause-outcome : goal.returns-in-Table1-clause-outcome
@@ -40,7 +40,7 @@ returns-in-Table1-clause-outcome c =
     let s = c in
     let a = s.args in
     let good = good_key_lem _ c.is_key.ensures (ap not c.if-not-is_key.false) in
-    removes_second a.f a.c a.x (words a.m.now) good s.requires
+    removes_second a.setup a.x (words a.m.now) good s.requires
     (located_as c.search_in-seen.ensures.at c.in-Table1.is) c.remove_cell-in-Table1.ensures
 
 pub returns-in-Waiting-clause-outcome : goal.returns-in-Waiting-clause-outcome
@@ -48,7 +48,7 @@ returns-in-Waiting-clause-outcome c =
     let s = c in
     let a = s.args in
     let good = good_key_lem _ c.is_key.ensures (ap not c.if-not-is_key.false) in
-    removes_waiting a.f a.c a.x (words a.m.now) good s.requires
+    removes_waiting a.setup a.x (words a.m.now) good s.requires
     (located_as c.search_in-seen.ensures.at c.in-Waiting.is) c.remove_waiting.ensures
 
 pub returns-in-Nowhere-clause-outcome : goal.returns-in-Nowhere-clause-outcome
@@ -56,5 +56,5 @@ returns-in-Nowhere-clause-outcome c =
     let s = c in
     let a = s.args in
     let good = good_key_lem _ c.is_key.ensures (ap not c.if-not-is_key.false) in
-    refuses_absent a.f a.c a.x (words a.m.now) good
+    refuses_absent a.setup a.x (words a.m.now) good
     (located_as c.search_in-seen.ensures.at c.in-Nowhere.is)

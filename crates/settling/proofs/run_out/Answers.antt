@@ -9,4 +9,4 @@ returns-clause-outcome c =
     let m = words a.m.now in
     let fit = c.requires.fit_in in
     let e = c.run_steps-ended.ensures in
-    ran_out a.f a.c m fit a.budget _ _ _ _ _ (e.words _ (runs_with a.f a.c m fit a.budget)) e.same.t0_len e.same.t1_len c.of.ensures
+    ran_out a.setup m fit a.budget _ _ _ _ _ (e.words _ (runs_with a.setup m fit a.budget)) e.same.t0_len e.same.t1_len c.of.ensures

@@ -8,22 +8,22 @@ use Rattle.settling.proofs.settle.Goals as goal
 pub returns-then-c-n-clause-outcome : goal.returns-then-c-n-clause-outcome
 returns-then-c-n-clause-outcome c =
     let a = c.args in
-    too_many a.f a.c a.n (words a.m.now) c.if-c-n.true
+    too_many a.setup a.n (words a.m.now) c.if-c-n.true
 
 pub returns-then-c-eq0-clause-outcome : goal.returns-then-c-eq0-clause-outcome
 returns-then-c-eq0-clause-outcome c =
     let a = c.args in
     let m = a.m.now in
-    settles_idle a.f a.c a.n m.t0.now m.t1.now m.queue.now m.detector.now c.requires c.tidy.ensures c.if-c-n.false c.if-c-eq0.true (rw c.at_rest.ensures)
+    settles_idle a.setup a.n m.t0.now m.t1.now m.queue.now m.detector.now c.requires c.tidy.ensures c.if-c-n.false c.if-c-eq0.true (rw c.at_rest.ensures)
 
 pub run_out-requires-clause-ready : goal.run_out-requires-clause-ready
 run_out-requires-clause-ready c =
     let a = c.args in
     let m = a.m.now in
-    tidied_ready a.f a.c m.t0.now m.t1.now m.queue.now m.detector.now _ _ c.requires c.tidy.ensures
+    tidied_ready a.setup m.t0.now m.t1.now m.queue.now m.detector.now _ _ c.requires c.tidy.ensures
 
 pub returns-clause-outcome : goal.returns-clause-outcome
 returns-clause-outcome c =
     let a = c.args in
     let m = a.m.now in
-    c.run_out.ensures.outcome ∙ settles a.f a.c a.n m.t0.now m.t1.now m.queue.now m.detector.now _ _ c.requires c.tidy.ensures c.if-c-n.false
+    c.run_out.ensures.outcome ∙ settles a.setup a.n m.t0.now m.t1.now m.queue.now m.detector.now _ _ c.requires c.tidy.ensures c.if-c-n.false

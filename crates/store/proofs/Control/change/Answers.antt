@@ -11,8 +11,8 @@ pub change-requires : goal.change-requires
 change-requires c =
     let a = c.args in
     let m = lent a.t0.now a.t1.now a.queue.now a.detector.now in
-    let fit = fits_by a.self m c.fault.ensures c.in-Ok.is c.from-f.ensures c.from-c.ensures in
-    record { tables_ready = tables_ready _ _ m fit; queue_len_in_bounds = queue_bounds _ _ m fit }
+    let fit = fits_by a.self m c.fault.ensures c.in-Ok.is c.from-setup.ensures in
+    record { tables_ready = tables_ready _ m fit; queue_len_in_bounds = queue_bounds _ m fit }
 
 pub returns-in-Ok : goal.returns-in-Ok
 unfolding changed
@@ -20,7 +20,8 @@ returns-in-Ok c =
     let a = c.args in
     let m = lent a.t0.now a.t1.now a.queue.now a.detector.now in
     handed_back c.change.new.m (search rules) (search rules) (search rules) (search rules)
-    (changes_by a.self m c.fault.ensures c.in-Ok.is c.from-f.ensures c.from-c.ensures _ c.after.ensures a.x a.v (λ n s. (change n a.x a.v s).answer) c.change.ensures.outcome)
+    (changes_by a.self m c.fault.ensures c.in-Ok.is c.from-setup.ensures _ c.after.ensures a.x a.v
+    (λ n s. (change n a.x a.v s).answer) c.change.ensures.outcome)
 
 pub returns-in-Err : goal.returns-in-Err
 unfolding changed

@@ -12,16 +12,16 @@ pub is_sound-requires : goal.is_sound-requires
 is_sound-requires c =
     let a = c.args in
     let m = lent a.t0.now a.t1.now a.queue.now a.detector.now in
-    let fit = fits_by a.self m c.fault.ensures c.in-Ok.is c.from-f.ensures c.from-c.ensures in
+    let fit = fits_by a.self m c.fault.ensures c.in-Ok.is c.from.ensures in
     let r = fit.rooms in
-    record { tables_ready = tables_ready _ _ m fit; queue_in_bounds = (omega arith, omega arith); detector_in_bounds = (omega arith, omega arith) }
+    record { tables_ready = tables_ready _ m fit; lengths_in_bounds = (omega arith, omega arith, omega arith, omega arith) }
 
 pub returns-then-is_sound : goal.returns-then-is_sound
 unfolding checked
 returns-then-is_sound c =
     let a = c.args in
     let m = lent a.t0.now a.t1.now a.queue.now a.detector.now in
-    let b = tested_by a.self m c.from-f.ensures c.from-c.ensures c.is_sound.ensures in
+    let b = tested_by a.self m c.from.ensures c.is_sound.ensures in
     checks_by a.self m (no_fault_in a.self m c.fault.ensures c.in-Ok.is) (sym c.if-is_sound.true ∙ b) c.accepted.ensures
 
 pub returns-else-is_sound : goal.returns-else-is_sound
@@ -29,7 +29,7 @@ unfolding checked
 returns-else-is_sound c =
     let a = c.args in
     let m = lent a.t0.now a.t1.now a.queue.now a.detector.now in
-    let b = tested_by a.self m c.from-f.ensures c.from-c.ensures c.is_sound.ensures in
+    let b = tested_by a.self m c.from.ensures c.is_sound.ensures in
     checks_by a.self m (no_fault_in a.self m c.fault.ensures c.in-Ok.is) (sym c.if-is_sound.false ∙ b) c.refused.ensures
 
 pub returns-in-Err : goal.returns-in-Err

@@ -12,15 +12,16 @@ pub find-requires : goal.find-requires
 find-requires c =
     let a = c.args in
     let m = lent a.t0.now a.t1.now a.queue.now a.detector.now in
-    let fit = fits_by a.self m c.fault.ensures c.in-Ok.is c.from-f.ensures c.from.ensures in
-    record { tables_ready = tables_ready _ _ m fit; queue_len_in_bounds = queue_bounds _ _ m fit }
+    let fit = fits_by a.self m c.fault.ensures c.in-Ok.is c.from-setup.ensures in
+    record { tables_ready = tables_ready _ m fit; queue_len_in_bounds = queue_bounds _ m fit }
 
 pub returns-in-Ok : goal.returns-in-Ok
 unfolding found
 returns-in-Ok c =
     let a = c.args in
     let m = lent a.t0.now a.t1.now a.queue.now a.detector.now in
-    keeps_by a.self m c.fault.ensures c.in-Ok.is c.from-f.ensures c.from.ensures _ c.after.ensures (λ n s. (find n a.x s).answer) (ap (inner m) (c.find.ensures a.detector.now))
+    keeps_by a.self m c.fault.ensures c.in-Ok.is c.from-setup.ensures _ c.after.ensures (λ n s. (find n a.x s).answer)
+    (ap (inner m) (c.find.ensures a.detector.now))
 
 pub returns-in-Err : goal.returns-in-Err
 unfolding found

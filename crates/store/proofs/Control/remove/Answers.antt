@@ -10,7 +10,7 @@ pub remove-requires : goal.remove-requires
 remove-requires c =
     let a = c.args in
     let m = lent a.t0.now a.t1.now a.queue.now a.detector.now in
-    fits_by a.self m c.fault.ensures c.in-Ok.is c.from-f.ensures c.from-c.ensures
+    fits_by a.self m c.fault.ensures c.in-Ok.is c.from-setup.ensures
 
 pub returns-in-Ok : goal.returns-in-Ok
 unfolding removed
@@ -18,7 +18,7 @@ returns-in-Ok c =
     let a = c.args in
     let m = lent a.t0.now a.t1.now a.queue.now a.detector.now in
     handed_back c.remove.new.m (search rules) (search rules) (search rules) (search rules)
-    (leaves_by a.self m c.fault.ensures c.in-Ok.is c.from-f.ensures c.from-c.ensures _ c.after.ensures (λ n s. remove n a.x s) c.remove.ensures.outcome)
+    (leaves_by a.self m c.fault.ensures c.in-Ok.is c.from-setup.ensures _ c.after.ensures (λ n s. remove n a.x s) c.remove.ensures.outcome)
 
 pub returns-in-Err : goal.returns-in-Err
 unfolding removed

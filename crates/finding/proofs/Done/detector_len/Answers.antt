@@ -1,8 +1,0 @@
--- `finding::Done::detector_len` is the upper half. Assumes nothing.
-use Rattle.std.proofs.Common.{refl}
-use Rattle.finding.specs.Inner.{told_under}
-use Rattle.finding.proofs.Done.detector_len.Goals as goal
-
-pub returns : goal.returns
-unfolding told_under
-returns c = refl
