@@ -14,7 +14,8 @@ use layout::Buffers;
 use numbers::{Lengths, Setup, Table};
 use refusals::Refusal;
 
-// The places past the lengths are cleared, the entry (x, v, 0) joins the back of the queue, which has room, then steps run until L are done or the queue is empty.
+// The places past the lengths are cleared, the entry (x, v, 0) joins the back of the queue, which has room, then steps run until L are done or the queue is
+// empty.
 fn join(mut setup: Setup, x: u32, v: u32, m: &mut Buffers) -> Done
     requires queue_len_bound { setup.rooms.lengths.queue < setup.rooms.queue_room }
     requires fit_in { FitIn setup (words m.old) }

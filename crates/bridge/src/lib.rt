@@ -1,4 +1,5 @@
-// The store's calls for C and Rust: one exported function for each, any record and any lengths. Names, numbers and slices one by one are the C interface (`kt.h`).
+// The store's calls for C and Rust: one exported function for each, any record and any lengths. Names, numbers and slices one by one are the C interface
+// (`kt.h`).
 #![tactic(auto)]
 
 ghost use Rattle.std.specs.Prelude.{◌≡◌};

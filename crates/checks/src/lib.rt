@@ -19,7 +19,7 @@ pub fn is_sound(
     detector: &[u32],
 ) -> bool
     requires tables_ready { TablesReady f.r t0.now t1.now }
-    requires lengths_in_bounds { (3 * lengths.queue ≤ length queue.now) × (length queue.now ≤ 192) × (2 * lengths.detector ≤ length detector.now) × (length detector.now ≤ 256) }
+    requires lengths_in_bounds { let q = length queue.now in let d = length detector.now in (3 * lengths.queue ≤ q) × (q ≤ 192) × (2 * lengths.detector ≤ d) × (d ≤ 256) }
     ensures { (n : Numbers) → n.home ≡ homes_of f → result ≡ is_sound_in n f.r lengths.queue lengths.detector t0.now t1.now queue.now detector.now }
 {
     let waiting = lengths.queue as usize;

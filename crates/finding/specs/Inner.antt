@@ -39,7 +39,12 @@ words_of c s = words_in (3 * c.queue_room) (2 * c.detector_room) s
 
 -- other lengths
 abbrev pub with_lens : Rooms → ℕ → ℕ → Rooms
-with_lens c ql dl = record { queue_room = c.queue_room; step_limit = c.step_limit; lengths = record { detector = dl; queue = ql }; detector_room = c.detector_room }
+with_lens c ql dl = record {
+  queue_room = c.queue_room;
+  step_limit = c.step_limit;
+  lengths = record { detector = dl; queue = ql };
+  detector_room = c.detector_room;
+}
 
 -- the lengths of a store
 abbrev pub rooms_of : Rooms → Store → Rooms

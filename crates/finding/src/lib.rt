@@ -1,5 +1,5 @@
-// Where a key lies, and what find answers. Inner functions: their callers show what they require. The queue's bounds stand in each clause: a struct of the queue
-// and its count would say them too, and ask them again where a public function makes it.
+// Where a key lies, and what find answers. Inner functions: their callers show what they require. The queue's bounds stand in each clause: a struct of the
+// queue and its count would say them too, and ask them again where a public function makes it.
 #![tactic(auto)]
 
 ghost use Rattle.std.specs.Prelude.{◌≡◌, ℕ, ◌*◌, ◌≤◌, List, length};
@@ -12,9 +12,9 @@ use layout::Buffers;
 use numbers::{Lengths, Rooms, Setup, Table};
 use refusals::Refusal;
 
-// What an accepted call gives back: the lengths, the detector's in the upper half, and the fields of its answer. The record goes on to the next call, which reads
-// both lengths at once: two halves, written one after the other, would hold it up. (With a struct of two, settle with nothing waiting takes 1.20 of the limit's
-// time, and with one word 1.08; the bar is 1.15.)
+// What an accepted call gives back: the lengths, the detector's in the upper half, and the fields of its answer. The record goes on to the next call, which
+// reads both lengths at once: two halves, written one after the other, would hold it up. (With a struct of two, settle with nothing waiting takes 1.20 of
+// the limit's time, and with one word 1.08; the bar is 1.15.)
 #[derive(Clone, Copy)]
 pub struct Done {
     pub lengths: u64,
@@ -77,7 +77,8 @@ fn search_queue(c: Rooms, x: u32, queue: &[u32]) -> Seen
     }
 }
 
-// Whether neither key is x. One test, of a product: two comparisons are two guesses where the keys are random (find then took 1.36 to 1.39 of the limit's time).
+// Whether neither key is x. One test, of a product: two comparisons are two guesses where the keys are random (find then took 1.36 to 1.39 of the limit's
+// time).
 fn neither(key0: u32, key1: u32, x: u32) -> bool
     ensures { result ≡ is_neither key0 key1 x }
 {

@@ -1,4 +1,5 @@
-// The two tables, the numbers of a control record, the home functions of a store, and what a good key is. Inner functions: their callers show what they require.
+// The two tables, the numbers of a control record, the home functions of a store, and what a good key is. Inner functions: their callers
+// show what they require.
 #![tactic(auto)]
 
 ghost use Rattle.std.specs.Prelude.{◌≡◌, ◌%◌, ◌<◌};

@@ -18,6 +18,7 @@ use Rattle.layout.proofs.Forms.{entry_lawful, pair_lawful, length-read_many}
 use Rattle.layout.proofs.Packed.{length-packed, read_packed}
 use Rattle.kinds.specs.declared.Turn.{Turn}
 use Rattle.kinds.specs.Shape.{Ready, kind_number}
+use Rattle.steps.specs.declared.Ended.{Ended}
 use Rattle.steps.specs.Shape.{TablesReady, StepsWith, Holds, Follows, Runs}
 
 -- no step makes the queue longer, and the detector stays within its room
@@ -140,10 +141,12 @@ module _ (f : Functions) (room budget ql₀ dl₀ : ℕ) (b₀ : Lent) where
   -- what the function ensures, left with these words and counts
   abbrev pub Answered : Lent → Lengths → ℕ → ℕ → Type 0
   Answered b lengths s m = (n : Numbers) → StepsWith n f room
-      → Runs f.r (length b₀.queue) (length b₀.detector) (run n budget (held f.r ql₀ dl₀ b₀)) b.table0 b.table1 b.queue b.detector (record { lengths = lengths; steps = s; moves = m })
+      → Runs f.r (length b₀.queue) (length b₀.detector) (run n budget (held f.r ql₀ dl₀ b₀)) b.table0 b.table1 b.queue b.detector
+      (record { lengths = lengths; steps = s; moves = m })
 
 module _ {f : Functions} {room budget ql₀ dl₀ : ℕ} {b₀ : Lent} where
-  pub begins : TablesReady f.r b₀.table0 b₀.table1 → length b₀.detector ≡ 2 * room → Ready ql₀ dl₀ b₀.queue b₀.detector → Going f room budget ql₀ dl₀ b₀ b₀ ql₀ dl₀ 0 0
+  pub begins : TablesReady f.r b₀.table0 b₀.table1 → length b₀.detector ≡ 2 * room → Ready ql₀ dl₀ b₀.queue b₀.detector
+      → Going f room budget ql₀ dl₀ b₀ b₀ ql₀ dl₀ 0 0
   begins ts e w = record {
     few = omega arith;
     within = omega arith;
@@ -193,12 +196,14 @@ module _ {f : Functions} {room budget ql₀ dl₀ : ℕ} {b₀ : Lent} where
     -- the loop is left, with what its words hold
     left : ((n : Numbers) → StepsWith n f room → run n budget s₀ ≡ ran st s m) → Answered f room budget ql₀ dl₀ b₀ b (record { detector = dl; queue = ql }) s m
     left e n w =
-        subst (λ (x : Ran). Runs f.r (length b₀.queue) (length b₀.detector) x b.table0 b.table1 b.queue b.detector (record { lengths = record { detector = dl; queue = ql }; steps = s; moves = m })) (sym (e n w))
+        let count : Ended = record { lengths = record { detector = dl; queue = ql }; steps = s; moves = m } in
+        subst (λ (x : Ran). Runs f.r (length b₀.queue) (length b₀.detector) x b.table0 b.table1 b.queue b.detector count) (sym (e n w))
         (record { words = ready_holds f.r (length b₀.queue) (length b₀.detector) b.table0 b.table1 g.ready g.queue g.detector; steps = refl; moves = refl })
 
     pub idles : ql ≡ 0 → Answered f room budget ql₀ dl₀ b₀ b (record { detector = dl; queue = ql }) s m
     idles h = left (λ n w. idle n budget s₀ st s m (length-read_many entry_form ql b.queue ∙ h) (g.rest n w))
 
   -- the budget is spent
-  pub ends : {b : Lent} {ql dl m : ℕ} → Going f room budget ql₀ dl₀ b₀ b ql dl budget m → Answered f room budget ql₀ dl₀ b₀ b (record { detector = dl; queue = ql }) budget m
+  pub ends : {b : Lent} {ql dl m : ℕ} → Going f room budget ql₀ dl₀ b₀ b ql dl budget m
+      → Answered f room budget ql₀ dl₀ b₀ b (record { detector = dl; queue = ql }) budget m
   ends {b} {ql} {dl} {m} g = left g (λ n w. spent n budget (held f.r ql₀ dl₀ b₀) (held f.r ql dl b) budget m (le_refl budget) (g.rest n w))

@@ -1,5 +1,6 @@
 // One step and runs of steps, on lent words. Inner functions: their callers show what they require. What they ask of the buffers are clauses with a name
-// (`TablesReady`, `Ready`), and no types: a type that says it would have to hold the record beside the buffers, and so to be made and taken apart at every step.
+// (`TablesReady`, `Ready`), and no types: a type that says it would have to hold the record beside the buffers, and so to be made and taken apart at every
+// step.
 #![tactic(auto)]
 
 ghost use Rattle.std.specs.Prelude.{◌≡◌, List, ◌*◌, ◌≤◌, ◌<◌, length, get_or, drop};

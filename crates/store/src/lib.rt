@@ -1,6 +1,6 @@
-// The key table: calls on a control record, by value, and on lent words. Every call takes every record, number and buffer. The slices are lent one by one, as the
-// project's page of rules has them. A call matches on `fault` and answers in both arms, since its answer is C's struct: a private function that takes `?` would be
-// a second one with the same clause, for each call.
+// The key table: calls on a control record, by value, and on lent words. Every call takes every record, number and buffer. The slices are lent one by one,
+// as the project's page of rules has them. A call matches on `fault` and answers in both arms, since its answer is C's struct: a private function that takes
+// `?` would be a second one with the same clause, for each call.
 #![tactic(auto)]
 
 ghost use Rattle.std.specs.Prelude.{◌≡◌};
@@ -18,8 +18,8 @@ use layout::Buffers;
 use numbers::{Functions, Lengths, Rooms, Setup};
 use refusals::Refusal;
 
-// r, Q, D, L, the numbers of the two home functions, and the two lengths: numbers and no struct, as C has them (`kt.h`). Memory is fixed, so queue and detector are
-// longer than what is in use, and the lengths stand here.
+// r, Q, D, L, the numbers of the two home functions, and the two lengths: numbers and no struct, as C has them (`kt.h`). Memory is fixed, so queue and
+// detector are longer than what is in use, and the lengths stand here.
 #[repr(C)]
 #[derive(Clone, Copy, Default)]
 pub struct Control {
@@ -46,8 +46,8 @@ pub struct Answer {
     pub moves: u32,
 }
 
-// What a call gives back, refused or not: the number as the answer has it. As in `Done` both lengths are one word, so that the record takes them at once: as a pair of number and `Done` they
-// became two again, and settle with nothing waiting took 1.20 of the limit's time for 1.08.
+// What a call gives back, refused or not: the number as the answer has it. As in `Done` both lengths are one word, so that the record takes them at once: as
+// a pair of number and `Done` they became two again, and settle with nothing waiting took 1.20 of the limit's time for 1.08.
 #[derive(Clone, Copy)]
 struct Reply {
     lengths: u64,

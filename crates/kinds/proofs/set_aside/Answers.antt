@@ -13,7 +13,8 @@ returns c =
     let w = s.requires.ready in
     let gone = c.close_gap.ensures ∙ front_gone entry_form entry_lawful a.lengths.queue a.queue.now w.queue w.queue_in s.requires.some_wait in
     record {
-      queue = c.put.ensures ∙ to_back entry_form entry_lawful a.lengths.queue a.queue.now w.queue w.queue_in s.requires.some_wait _ (entry a.front.key a.front.value a.front.side) gone;
+      queue = c.put.ensures ∙ to_back entry_form entry_lawful a.lengths.queue a.queue.now w.queue w.queue_in s.requires.some_wait _
+          (entry a.front.key a.front.value a.front.side) gone;
       detector = c.clear.ensures ∙ all_gone pair_form pair_lawful a.lengths.detector a.detector.now w.detector w.detector_in;
       answer = refl;
     }

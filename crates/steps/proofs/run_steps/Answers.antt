@@ -33,4 +33,5 @@ returns-clause-words c =
     let i = c.loop-steps in
     let l = c.args in
     let all : i.steps ≡ l.budget = omega arith in
-    ends (subst (λ (k : ℕ). Going l.f l.room l.budget l.lengths.queue l.lengths.detector (words l.m.now) (words i.m) i.lengths.queue i.lengths.detector k i.moves) all i.invariant.going)
+    let went = λ (k : ℕ). Going l.f l.room l.budget l.lengths.queue l.lengths.detector (words l.m.now) (words i.m) i.lengths.queue i.lengths.detector k i.moves in
+    ends (subst went all i.invariant.going)

@@ -18,8 +18,8 @@ returns-in-Ok c =
     let n : Control = new_record a.r a.queue_room a.detector_room a.step_limit a.a0 a.b0 a.a1 a.b1 in
     let z = c.clear_all.ensures in
     handed_back c.clear_all.new.m (search rules) (search rules) (search rules) (search rules)
-    (open_accepts n a.t0.now a.t1.now a.queue.now a.detector.now (no_fault_in n m c.fault.ensures c.in-Ok.is) z.t0_after z.t1_after z.queue_after z.detector_after
-    c.accepted.ensures)
+    (open_accepts n a.t0.now a.t1.now a.queue.now a.detector.now (no_fault_in n m c.fault.ensures c.in-Ok.is) z.t0_after z.t1_after
+    z.queue_after z.detector_after c.accepted.ensures)
 
 pub returns-in-Err : goal.returns-in-Err
 returns-in-Err c =
@@ -28,5 +28,6 @@ returns-in-Err c =
     let n : Control = new_record a.r a.queue_room a.detector_room a.step_limit a.a0 a.b0 a.a1 a.b1 in
     let number = number_is n m c.fault.ensures c.in-Err.is in
     let zero : c.default.result ≡ zeros = search rules in
-    ap (outcome m) (c.refused.ensures ∙ ap (λ (z : Control). answered z (answer (number_of c.in-Err.refusal) (value_of c.in-Err.refusal) 0 0)) zero ∙ fault_answer n m c.fault.ensures c.in-Err.is zeros)
+    let told = answer (number_of c.in-Err.refusal) (value_of c.in-Err.refusal) 0 0 in
+    ap (outcome m) (c.refused.ensures ∙ ap (λ (z : Control). answered z told) zero ∙ fault_answer n m c.fault.ensures c.in-Err.is zeros)
     ∙ open_refuses n m _ (new_within a.r a.queue_room a.detector_room a.step_limit a.a0 a.b0 a.a1 a.b1) refl (λ z. some_number _ (number ∙ z))
