@@ -54,7 +54,7 @@ fn pair_ok(j: usize, n: usize, detector: &[u32]) -> bool
     let y = detector[2 * j];
     let side = detector[2 * j + 1];
     let behind = &detector[2 * (j + 1)..];
-    numbers::is_key(y) && side <= 1 && !layout::is_marked(behind, n - (j + 1), y, Table::from(side))
+    numbers::is_key(y) && side <= 1 && !layout::is_marked(behind, n - (j + 1), y, side)
 }
 
 // Whether every one of n pairs is as it must be.

@@ -2,12 +2,12 @@
 #![tactic(auto)]
 
 ghost use Rattle.std.specs.Prelude.{◌≡◌, ◌||◌, leb, ◌+◌, ◌*◌, ◌≤◌, ◌<◌, length};
+ghost use Rattle.rules.specs.Store.{meant};
 ghost use Rattle.rules.specs.Step.{is_marked};
 ghost use Rattle.layout.specs.Forms.{pair_form, read_many};
-ghost use Rattle.layout.specs.Memory.{rules_table};
 ghost use Rattle.kinds.specs.Shape.{Ready, Landed, Aside, Swapped};
 
-use numbers::{Lengths, Table};
+use numbers::Lengths;
 
 // The kinds, in the order in which they are tried.
 #[derive(Clone, Copy)]
@@ -111,10 +111,10 @@ pub fn swap(
     }
 }
 
-// Whether the front entry is to be set aside: its pair is marked, or the detector is full.
-pub fn must_stop(ws: &[u32], n: usize, room: usize, y: u32, table: Table) -> bool
+// Whether the front entry is to be set aside: its pair is marked, or the detector is full. Its side is a word and no `Table`: every word means one.
+pub fn must_stop(ws: &[u32], n: usize, room: usize, y: u32, side: u32) -> bool
     requires { 2 * n ≤ length ws.now }
-    ensures { result ≡ (is_marked y (rules_table table) (read_many pair_form n ws.now) || leb room n) }
+    ensures { result ≡ (is_marked y (meant side) (read_many pair_form n ws.now) || leb room n) }
 {
-    layout::is_marked(ws, n, y, table) || (room <= n)
+    layout::is_marked(ws, n, y, side) || (room <= n)
 }

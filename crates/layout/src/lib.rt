@@ -7,7 +7,7 @@ ghost use Rattle.rules.specs.Step.{is_marked};
 ghost use Rattle.rules.specs.Store.{meant, same_table};
 ghost use Rattle.words.specs.Words.{cleared};
 ghost use Rattle.layout.specs.Forms.{pair_form, entry_form, read_many};
-ghost use Rattle.layout.specs.Memory.{SameBuffers, rules_table, Tidied};
+ghost use Rattle.layout.specs.Memory.{SameBuffers, Tidied};
 ghost use Rattle.layout.specs.Places.{FirstPlace};
 
 use numbers::{Lengths, Table};
@@ -21,20 +21,20 @@ pub struct Buffers<'a> {
     pub detector: &'a mut [u32],
 }
 
-// Whether key k with side word s is the pair of key y and a table.
-fn is_pair(k: u32, s: u32, y: u32, table: Table) -> bool
-    ensures { result ≡ eqb k y && same_table (meant s) (rules_table table) }
+// Whether key k with side word s is the pair of key y and the table that a side word means.
+fn is_pair(k: u32, s: u32, y: u32, side: u32) -> bool
+    ensures { result ≡ eqb k y && same_table (meant s) (meant side) }
 {
-    (k == y) && (Table::from(s) == table)
+    (k == y) && (Table::from(s) == Table::from(side))
 }
 
-// Whether the pair of key y and a table is among the first n pairs.
-pub fn is_marked(ws: &[u32], n: usize, y: u32, table: Table) -> bool
+// Whether the pair of key y and the table that a side word means is among the first n pairs. A word and no `Table`: every word means one.
+pub fn is_marked(ws: &[u32], n: usize, y: u32, side: u32) -> bool
     requires { 2 * n ≤ length ws.now }
-    ensures { result ≡ is_marked y (rules_table table) (read_many pair_form n ws.now) }
+    ensures { result ≡ is_marked y (meant side) (read_many pair_form n ws.now) }
 {
     for i in 0..n {
-        if is_pair(ws[2 * i], ws[2 * i + 1], y, table) {
+        if is_pair(ws[2 * i], ws[2 * i + 1], y, side) {
             return true;
         }
     }

@@ -7,7 +7,7 @@ use records::Command::{Change, Define, Find, Remove, Settle};
 use session::{Bench, STORE_S, StoreS, told};
 use std::io::Write;
 use std::{fmt, io};
-use store::Control;
+use store::{Answer, Control};
 
 // Words, a space before each.
 #[derive(Clone, Copy)]
@@ -24,7 +24,12 @@ impl fmt::Display for Words<'_> {
 
 // The line of a buffer.
 fn shows<W: Write>(out: &mut W, name: &str, buffer: &[u32]) -> io::Result<()> {
-    writeln!(out, "{name}:{}", Words(buffer))
+    writeln!(out, "{name}{}", Words(buffer))
+}
+
+// The line of open, with the cells asked for, or of check, with 0.
+fn line<W: Write>(out: &mut W, name: &str, key: u32, answer: Answer) -> io::Result<()> {
+    told(out, format_args!("{name} {key}"), answer)
 }
 
 // Opens a store on a bench.
@@ -34,7 +39,7 @@ fn opens<W: Write, const TABLE: usize, const QUEUE: usize, const DETECTOR: usize
     asked: Control,
 ) -> io::Result<()> {
     let answer = b.opens(asked);
-    told(out, format_args!("open {}", asked.r), answer)
+    line(out, "open", asked.r, answer)
 }
 
 // Runs commands, one after the other.
@@ -56,29 +61,29 @@ fn fills<W: Write>(out: &mut W, b: &mut StoreS) -> io::Result<()> {
         b,
         &[Define(1, 10), Define(5, 20), Define(9, 30), Define(21, 40)],
     )?;
-    shows(out, "table 0", &b.t0)?;
-    shows(out, "table 1", &b.t1)?;
+    shows(out, "table 0:", &b.t0)?;
+    shows(out, "table 1:", &b.t1)?;
     b.runs(out, Define(13, 50))?;
-    shows(out, "queue", &b.queue)?;
+    shows(out, "queue:", &b.queue)?;
     runs(out, b, &[Find(5), Define(5, 21)])
 }
 
 // Settle 2, define 17: six keys, five cells.
 fn crowds<W: Write>(out: &mut W, b: &mut StoreS) -> io::Result<()> {
     b.runs(out, Settle(2))?;
-    shows(out, "table 1", &b.t1)?;
+    shows(out, "table 1:", &b.t1)?;
     runs(out, b, &[Define(17, 60), Settle(2), Settle(2), Settle(2)])?;
-    shows(out, "queue", &b.queue)?;
-    shows(out, "detector", &b.detector)?;
+    shows(out, "queue:", &b.queue)?;
+    shows(out, "detector:", &b.detector)?;
     b.runs(out, Settle(1))?;
-    shows(out, "queue", &b.queue)?;
-    shows(out, "detector", &b.detector)
+    shows(out, "queue:", &b.queue)?;
+    shows(out, "detector:", &b.detector)
 }
 
 // Remove 21, settle 2 empties the queue; then what is refused.
 fn refuses<W: Write>(out: &mut W, b: &mut StoreS) -> io::Result<()> {
     runs(out, b, &[Remove(21), Settle(2)])?;
-    shows(out, "queue", &b.queue)?;
+    shows(out, "queue:", &b.queue)?;
     runs(
         out,
         b,
@@ -102,9 +107,9 @@ fn store_s<W: Write>(out: &mut W) -> io::Result<()> {
     fills(out, &mut b)?;
     crowds(out, &mut b)?;
     refuses(out, &mut b)?;
-    told(out, "check 0", b.checks())?;
+    line(out, "check", 0, b.checks())?;
     b.t0[1] = 7;
-    told(out, "check 0", b.checks())
+    line(out, "check", 0, b.checks())
 }
 
 // The numbers of store T: those of S with one cell a table, one place, two pairs and one step.
@@ -133,12 +138,12 @@ fn store_t<W: Write>(out: &mut W) -> io::Result<()> {
             Settle(1),
         ],
     )?;
-    shows(out, "queue", &b.queue)?;
-    shows(out, "detector", &b.detector)?;
+    shows(out, "queue:", &b.queue)?;
+    shows(out, "detector:", &b.detector)?;
     b.runs(out, Settle(1))?;
-    shows(out, "queue", &b.queue)?;
-    shows(out, "detector", &b.detector)?;
-    told(out, "check 0", b.checks())
+    shows(out, "queue:", &b.queue)?;
+    shows(out, "detector:", &b.detector)?;
+    line(out, "check", 0, b.checks())
 }
 
 // The numbers of a store with r cells a table and Q places.
@@ -156,7 +161,7 @@ fn limits<W: Write>(out: &mut W) -> io::Result<()> {
     let mut short = Bench::<2, 3, 4>::filled(9);
     opens(out, &mut short, sized(0, 1))?;
     opens(out, &mut short, sized(32769, 1))?;
-    shows(out, "queue", &short.queue)?;
+    shows(out, "queue:", &short.queue)?;
     opens(out, &mut short, sized(1, 2))?;
     opens(out, &mut Bench::<2, 192, 4>::filled(9), sized(1, 64))?;
     opens(out, &mut Bench::<2, 195, 4>::filled(9), sized(1, 65))

@@ -1,3 +1,4 @@
+pub mod Marks
 pub mod Places
 pub mod Bound
 pub mod RoundTrip

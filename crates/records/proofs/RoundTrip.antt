@@ -8,16 +8,13 @@ use lib.ListN.{length, get_or, length-append}
 use lib.Seq.{get_or-append-add, get_or-append_seam}
 use Rattle.little_endian.specs.Word.{word_at, bytes_of_word}
 use Rattle.little_endian.proofs.Laws.{word_back}
-use Rattle.records.specs.Record.{Fields, fields, fields_at, is_good, if_good, or_refuse10, record_at}
+use Rattle.records.specs.Record.{Fields, fields_at, is_good, if_good, or_refuse10, record_at}
 use Rattle.records.specs.Told.{fields_of}
 use Rattle.records.specs.Bytes.{bytes_of, WordsFit, RoundTrip}
 use Rattle.records.specs.declared.Command.{Command}
 use Rattle.records.specs.declared.Command.TheVariants.{Define, Change, Find, Remove, Settle}
+use Rattle.records.proofs.Marks.{same_fields}
 use Rattle.records.proofs.Places.{has_ten}
-
--- records with equal parts are equal
-same_fields : {a a' b b' k k' v v' : ℕ} → a ≡ a' → b ≡ b' → k ≡ k' → v ≡ v' → fields a b k v ≡ fields a' b' k' v'
-same_fields p q r s = rw (p, q, r, s)
 
 -- the fields that were written
 fields_back : (f : Fields) → WordsFit f → (before after : List ℕ) → fields_at (before ++ (bytes_of f ++ after)) (length before) ≡ f

@@ -1,5 +1,5 @@
 -- This page's number and values for each case of the reader's enums. Assumes nothing.
-use Rattle.std.specs.Prelude.{ℕ, List, ◌∷◌, ◌++◌, decimal, encode_utf8}
+use Rattle.std.specs.Prelude.{ℕ, List, [], ◌∷◌, ◌++◌, decimal, encode_utf8}
 use Rattle.records.specs.Record.{letter_c, letter_d, letter_f, letter_h, letter_m, letter_r, letter_s, letter_t, Fields, fields, Answer, taken, refused, ended}
 use Rattle.records.specs.declared.Command.{Command}
 use Rattle.records.specs.declared.Command.TheVariants.{Define, Change, Find, Remove, Settle}
@@ -22,6 +22,10 @@ heading_of command = record { first = (fields_of command).first; second = (field
 -- the mark as two characters, a space (32) and the key word in decimal
 abbrev pub heading_text : Heading → List ℕ
 heading_text h = encode_utf8 h.first ++ encode_utf8 h.second ++ 32 ∷ decimal h.key
+
+-- the mark's two letters
+abbrev pub mark_text : Command → List ℕ
+mark_text command = (fields_of command).first ∷ (fields_of command).second ∷ []
 
 -- the mark's letters, a space and the key word in decimal
 abbrev pub command_text : Command → List ℕ

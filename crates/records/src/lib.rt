@@ -3,7 +3,7 @@
 
 ghost use Rattle.std.specs.Prelude.{◌≡◌, ◌+◌, ◌≤◌, length, Some};
 ghost use Rattle.records.specs.Record.{fields, if_good, record_at, read_at};
-ghost use Rattle.records.specs.Told.{fields_of, heading_of, heading_text, command_text, told};
+ghost use Rattle.records.specs.Told.{fields_of, heading_of, heading_text, mark_text, command_text, told};
 ghost use Rattle.records.specs.Inner.{said, if_zero};
 
 use std::fmt;
@@ -107,11 +107,26 @@ impl fmt::Display for Heading {
     }
 }
 
-// A command is printed as its heading.
+// The letters of a command's mark, as a text.
+fn mark_of(command: Command) -> &'static str
+    ensures { result.now ≡ mark_text command }
+{
+    match command {
+        Command::Define(_, _) => "DF",
+        Command::Change(_, _) => "CH",
+        Command::Find(_) => "FD",
+        Command::Remove(_) => "RM",
+        Command::Settle(_) => "ST",
+    }
+}
+
+// A command is printed as its heading, the mark in one piece: a writer that takes pieces whole never takes half a mark.
 impl fmt::Display for Command {
     ghost output = { λ command. Some (command_text command) };
 
     fn fmt<W: fmt::Write>(&self, f: &mut fmt::Formatter<W>) -> fmt::Result {
-        write!(f, "{}", heading_of(*self))
+        let command = *self;
+        let mark = mark_of(command);
+        write!(f, "{mark} {}", heading_of(command).key)
     }
 }

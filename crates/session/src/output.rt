@@ -20,9 +20,10 @@ pub fn told<W: Write, H: Display + Drop>(out: &mut W, asked: H, a: Answer) -> io
     )
 }
 
-// The line of a bad record, with its place in the input.
+// The line of a bad record, with its place in the input. The mark is a piece of its own, as a command's is.
 pub(crate) fn bad<W: Write>(out: &mut W, place: u64) -> io::Result<()>
     ensures { OnOk result (Appends (W.contents out.old) (W.contents out.new) (bad_line place)) }
 {
-    writeln!(out, "?? {place} 10 0 0 0")
+    let mark = "??";
+    writeln!(out, "{mark} {place} 10 0 0 0")
 }

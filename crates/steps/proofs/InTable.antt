@@ -13,7 +13,7 @@ use lib.Seq.{sets, get_or-drop}
 use Rattle.numbers.specs.declared.Table.{Table as CodeTable}
 use Rattle.numbers.specs.declared.Table.TheVariants.{Zero, One}
 use Rattle.numbers.specs.Tables.{side_of as word_of}
-use Rattle.rules.specs.Store.{Table, table_0, table_1, other, side_of, Cell, free_cell, Entry, cell_at, put_cell, Store}
+use Rattle.rules.specs.Store.{Table, table_0, table_1, other, side_of, Cell, free_cell, Entry, cell_at, put_cell, Store, meant}
 use Rattle.rules.specs.Step.{taken, is_marked, Stepped, step_at}
 use Rattle.rules.proofs.Steps.{by_kind}
 use Rattle.layout.specs.Memory.{rules_table, cells_in, entries_in, pairs_in}
@@ -40,6 +40,11 @@ cell_read r i t h = read_at cell_form r i t free_cell h ∙ simp (get_or-drop, a
 side_meant : (t : CodeTable) → side_of (rules_table t) ≡ word_of t
 side_meant Zero = refl
 side_meant One = refl
+
+-- what a table's side word means
+pub meant_side : (t : CodeTable) → meant (word_of t) ≡ rules_table t
+meant_side Zero = refl
+meant_side One = refl
 
 side_other : (t : CodeTable) → side_of (other (rules_table t)) ≡ 1 - word_of t
 side_other Zero = refl

@@ -54,7 +54,7 @@ fn step_in(
         lengths.detector as usize,
         room as usize,
         front.key,
-        table,
+        front.side,
     ) {
         return kinds::set_aside(front, lengths, queue, detector);
     }

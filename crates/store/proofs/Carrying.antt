@@ -19,7 +19,7 @@ use Rattle.refusals.specs.declared.Refusal.TheVariants.{QueueFull, NotFound, Abo
 use Rattle.refusals.specs.Numbers.{number_of, value_of, number_of_test}
 use Rattle.finding.specs.declared.Done.{Done}
 use Rattle.numbers.specs.declared.Setup.{Setup}
-use Rattle.finding.specs.Inner.{numbers_of as inner_numbers, store_of as inner_store, Outcome as InnerOutcome, outcome as inner, answered as inner_answered, keeps as inner_keeps, leaves as inner_leaves, words_of as inner_words, rooms_of as inner_rooms, FitIn, told_by}
+use Rattle.finding.specs.Inner.{numbers_of as inner_numbers, store_of as inner_store, Outcome as InnerOutcome, outcome as inner, answered as inner_answered, keeps as inner_keeps, leaves as inner_leaves, words_of as inner_words, rooms_of as inner_rooms, FitIn, Told, told_by}
 use Rattle.changing.specs.Change.{put_value, changing as inner_changing}
 use Rattle.store.specs.declared.Control.{Control}
 use Rattle.store.specs.declared.Answer.{Answer}
@@ -102,27 +102,29 @@ module _ (c : Control) (m : Lent) {r : Result (Unit {0}) Refusal} (test : number
       pub fits_by : FitIn w m
       fits_by = rw same own_fits_by
 
-      module _ {m' : Lent} (d : Result Done Refusal) {a : Answer} (is : a ≡ carried c (told_by (rooms_of c) d)) where
-        -- whatever an inner call leaves, if what it leaves carries to what comes after
-        goes_by : (G : Setup → InnerOutcome) (after : Outcome) → carries c (G (setup_of c)) ≡ after → inner m' (told_by w.rooms d) ≡ G w
+      module _ {m' : Lent} {d : Told} {a : Answer} (is : a ≡ carried c d) where
+        -- whatever an inner call leaves and gives back, if what it leaves carries to what comes after
+        goes_by : (G : Setup → InnerOutcome) (after : Outcome) → carries c (G (setup_of c)) ≡ after → inner m' d ≡ G w
             → outcome m' a ≡ unless_fault c m after
-        goes_by G after carry e =
-            ap (outcome m') is ∙ ap (λ (z : Setup). carries c (inner m' (told_by z.rooms d))) (sym same)
-            ∙ ap (carries c) (e ∙ ap G same) ∙ carry ∙ goes_on_by after
+        goes_by G after carry e = ap (outcome m') is ∙ ap (carries c) (e ∙ ap G same) ∙ carry ∙ goes_on_by after
 
-        pub keeps_by : (G : Numbers → Store → RulesAnswer) → inner m' (told_by w.rooms d) ≡ inner_keeps w.rooms m (G (inner_numbers w) (inner_store w m))
+        pub keeps_by : (G : Numbers → Store → RulesAnswer) → inner m' d ≡ inner_keeps w.rooms m (G (inner_numbers w) (inner_store w m))
             → outcome m' a ≡ unless_fault c m (keeps c m (G (numbers_of c) (store_of c m)))
         keeps_by G = goes_by (λ z. inner_keeps z.rooms m (G (inner_numbers z) (inner_store z m))) _ refl
 
-        pub leaves_by : (G : Numbers → Store → RulesOutcome) → inner m' (told_by w.rooms d) ≡ inner_leaves w.rooms m (G (inner_numbers w) (inner_store w m))
+        pub leaves_by : (G : Numbers → Store → RulesOutcome) → inner m' d ≡ inner_leaves w.rooms m (G (inner_numbers w) (inner_store w m))
             → outcome m' a ≡ unless_fault c m (leaves c m (G (numbers_of c) (store_of c m)))
         leaves_by G = goes_by (λ z. inner_leaves z.rooms m (G (inner_numbers z) (inner_store z m))) _ (carries-leaves c m (G (numbers_of c) (store_of c m)))
 
-        pub changes_by : (x v : ℕ) (G : Numbers → Store → RulesAnswer) → inner m' (told_by w.rooms d)
-            ≡ inner_changing w x v m (G (inner_numbers w) (inner_store w m))
+        pub changes_by : (x v : ℕ) (G : Numbers → Store → RulesAnswer) → inner m' d ≡ inner_changing w x v m (G (inner_numbers w) (inner_store w m))
             → outcome m' a ≡ unless_fault c m (changing c x v m (G (numbers_of c) (store_of c m)))
         changes_by x v G =
             goes_by (λ z. inner_changing z x v m (G (inner_numbers z) (inner_store z m))) _ (carries-changing c m x v (G (numbers_of c) (store_of c m)))
+
+-- what an inner call gives back, read with the record's own rooms
+pub own_told : (c : Control) {w : Setup} (same : w ≡ setup_of c) {m' : Lent} (d : Result Done Refusal) {o : InnerOutcome}
+    → inner m' (told_by w.rooms d) ≡ o → inner m' (told_by (rooms_of c) d) ≡ o
+own_told c same {m'} d e = ap (λ (z : Setup). inner m' (told_by z.rooms d)) (sym same) ∙ e
 
 -- the buffers that a call was lent hold what those that it handed on hold
 pub handed_back : {t0 t1 q d : List ℕ} {a : Answer} {o : Outcome} (m : Buffers) → t0 ≡ m.t0.now → t1 ≡ m.t1.now → q ≡ m.queue.now → d ≡ m.detector.now

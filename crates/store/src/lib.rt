@@ -237,13 +237,7 @@ impl Control {
         match self.fault(t0, t1, queue, detector) {
             Ok(()) => {
                 let setup = Setup::from(self);
-                let mut m = Buffers {
-                    t0,
-                    t1,
-                    queue,
-                    detector,
-                };
-                self.after(changing::change(setup, x, v, &mut m))
+                self.after(changing::change(setup, x, v, t0, t1, queue))
             }
             Err(refusal) => self.refused(refusal),
         }

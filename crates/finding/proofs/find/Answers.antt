@@ -1,5 +1,5 @@
 -- `finding::find` answers what the rules' find answers. Assumes nothing.
-use Rattle.std.proofs.Common.{ap, not}
+use Rattle.std.proofs.Common.{ap, not, ◌∙◌}
 use Rattle.layout.specs.Memory.{lent}
 use Rattle.finding.proofs.Searching.{found_bad, found_at}
 use Rattle.finding.proofs.find.Goals as goal
@@ -11,7 +11,7 @@ returns-then-not-is_key c d =
 
 pub returns-in-Some : goal.returns-in-Some
 returns-in-Some c d =
-    rw c.at_rest.ensures (rw c.in-Some.is at (found_at c.is_key.ensures (ap not c.if-not-is_key.false) (c.search.ensures d)))
+    c.at_rest.ensures ∙ (rw c.in-Some.is at (found_at c.is_key.ensures (ap not c.if-not-is_key.false) (c.search.ensures d)))
 
 pub returns-in-None : goal.returns-in-None
 returns-in-None c d = rw c.in-None.is at (found_at c.is_key.ensures (ap not c.if-not-is_key.false) (c.search.ensures d))

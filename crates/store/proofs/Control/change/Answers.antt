@@ -1,10 +1,9 @@
 -- `store::Control::change` meets its contract: refusals 1 to 3, else what `changing::change` gives. Assumes nothing.
-use Rattle.std.proofs.Common.{rules}
 use Rattle.rules.specs.Calls.{change}
 use Rattle.layout.specs.Memory.{lent}
 use Rattle.finding.proofs.Fits.{tables_ready, queue_bounds}
 use Rattle.store.specs.Calls.{changed}
-use Rattle.store.proofs.Carrying.{refused_by, fits_by, changes_by, handed_back}
+use Rattle.store.proofs.Carrying.{refused_by, fits_by, changes_by, own_told}
 use Rattle.store.proofs.Control.change.Goals as goal
 
 pub change-requires : goal.change-requires
@@ -19,9 +18,8 @@ unfolding changed
 returns-in-Ok c =
     let a = c.args in
     let m = lent a.t0.now a.t1.now a.queue.now a.detector.now in
-    handed_back c.change.new.m (search rules) (search rules) (search rules) (search rules)
-    (changes_by a.self m c.fault.ensures c.in-Ok.is c.from-setup.ensures _ c.after.ensures a.x a.v
-    (λ n s. (change n a.x a.v s).answer) c.change.ensures.outcome)
+    changes_by a.self m c.fault.ensures c.in-Ok.is c.from-setup.ensures c.after.ensures a.x a.v
+    (λ n s. (change n a.x a.v s).answer) (own_told a.self c.from-setup.ensures _ (c.change.ensures a.detector.now))
 
 pub returns-in-Err : goal.returns-in-Err
 unfolding changed

@@ -3,7 +3,7 @@ use Rattle.std.proofs.Common.{rules}
 use Rattle.rules.specs.Calls.{define}
 use Rattle.layout.specs.Memory.{lent}
 use Rattle.store.specs.Calls.{defined}
-use Rattle.store.proofs.Carrying.{refused_by, fits_by, leaves_by, handed_back}
+use Rattle.store.proofs.Carrying.{refused_by, fits_by, leaves_by, own_told, handed_back}
 use Rattle.store.proofs.Control.define.Goals as goal
 
 pub define-requires : goal.define-requires
@@ -18,7 +18,8 @@ returns-in-Ok c =
     let a = c.args in
     let m = lent a.t0.now a.t1.now a.queue.now a.detector.now in
     handed_back c.define.new.m (search rules) (search rules) (search rules) (search rules)
-    (leaves_by a.self m c.fault.ensures c.in-Ok.is c.from-setup.ensures _ c.after.ensures (λ n s. define n a.x a.v s) c.define.ensures.outcome)
+    (leaves_by a.self m c.fault.ensures c.in-Ok.is c.from-setup.ensures c.after.ensures (λ n s. define n a.x a.v s)
+    (own_told a.self c.from-setup.ensures _ c.define.ensures.outcome))
 
 pub returns-in-Err : goal.returns-in-Err
 unfolding defined

@@ -3,7 +3,7 @@ use Rattle.std.proofs.Common.{rules}
 use Rattle.rules.specs.Calls.{settle}
 use Rattle.layout.specs.Memory.{lent}
 use Rattle.store.specs.Calls.{settled}
-use Rattle.store.proofs.Carrying.{refused_by, fits_by, leaves_by, handed_back}
+use Rattle.store.proofs.Carrying.{refused_by, fits_by, leaves_by, own_told, handed_back}
 use Rattle.store.proofs.Control.settle.Goals as goal
 
 pub settle-requires : goal.settle-requires
@@ -18,7 +18,8 @@ returns-in-Ok c =
     let a = c.args in
     let m = lent a.t0.now a.t1.now a.queue.now a.detector.now in
     handed_back c.settle.new.m (search rules) (search rules) (search rules) (search rules)
-    (leaves_by a.self m c.fault.ensures c.in-Ok.is c.from-setup.ensures _ c.after.ensures (λ n s. settle n a.n s) c.settle.ensures.outcome)
+    (leaves_by a.self m c.fault.ensures c.in-Ok.is c.from-setup.ensures c.after.ensures (λ n s. settle n a.n s)
+    (own_told a.self c.from-setup.ensures _ c.settle.ensures.outcome))
 
 pub returns-in-Err : goal.returns-in-Err
 unfolding settled
