@@ -7,11 +7,17 @@ use native.Mathlib.Numerals.{add-one}
 use lib.ListN.{length, get_or, set, take, drop, replicate, length-append, length-drop, length-replicate, take-append-drop, replicate-append-replicate}
 use lib.Seq.{length-take-le, drop-cons, set_at, drop-drop, sets, sets-eq, paste, take-paste, drop-paste}
 use borrow.Rule.Slice.PartMut.{put_mid}
+use Rattle.std.specs.List.{copy_within}
 use Rattle.words.specs.Words.{cleared, between, closed}
 
 -- words copied over a part of the words are stored one after another
 pub put_mid_sets : (ws vs : List ℕ) (at k : ℕ) → length vs ≡ k → at + k ≤ length ws → put_mid at k ws vs ≡ sets ws at vs
 put_mid_sets ws vs at k e h = rw (drop-drop k at ws, sets-eq vs ws at (omega arith), e, append_assoc)
+
+-- the same, if what is copied are the words given
+pub put_given : {copied : List ℕ} (ws given : List ℕ) (at k : ℕ) → length copied ≡ k → at + k ≤ length ws → copied ≡ given
+    → put_mid at k ws copied ≡ sets ws at given
+put_given {copied} ws given at k e h same = put_mid_sets ws copied at k e h ∙ ap (sets ws at) same
 
 -- nothing cleared yet
 pub clear_none : (from : ℕ) (ws : List ℕ) → ws ≡ cleared from from ws
@@ -50,3 +56,7 @@ closes at w end ws h k =
     let e : at + n + w ≡ end = omega arith in
     let d : drop end p ≡ drop end ws = rw e at (past ws at s n w a l) in
     rw (z, d, m, take-paste ws at s n a l, append_assoc)
+
+-- words moved are those of the words given, if it was these that the code had
+pub moved_given : {new ws : List ℕ} (given : List ℕ) (from to at : ℕ) → new ≡ copy_within ws from to at → ws ≡ given → new ≡ copy_within given from to at
+moved_given given from to at is same = is ∙ ap (λ ws. copy_within ws from to at) same
