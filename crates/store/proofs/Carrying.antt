@@ -19,7 +19,8 @@ use Rattle.refusals.specs.declared.Refusal.TheVariants.{QueueFull, NotFound, Abo
 use Rattle.refusals.specs.Numbers.{number_of, value_of, number_of_test}
 use Rattle.finding.specs.declared.Done.{Done}
 use Rattle.numbers.specs.declared.Setup.{Setup}
-use Rattle.finding.specs.Inner.{numbers_of as inner_numbers, store_of as inner_store, Outcome as InnerOutcome, outcome as inner, answered as inner_answered, keeps as inner_keeps, leaves as inner_leaves, words_of as inner_words, rooms_of as inner_rooms, FitIn, Told, told_by}
+use Rattle.finding.specs.Inner.{numbers_of as inner_numbers, store_of as inner_store, words_of as inner_words, rooms_of as inner_rooms, FitIn, Told, told_by}
+use Rattle.finding.specs.Inner.{Outcome as InnerOutcome, outcome as inner, answered as inner_answered, keeps as inner_keeps, leaves as inner_leaves}
 use Rattle.changing.specs.Change.{put_value, changing as inner_changing}
 use Rattle.store.specs.declared.Control.{Control}
 use Rattle.store.specs.declared.Answer.{Answer}
